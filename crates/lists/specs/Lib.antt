@@ -1,0 +1,5 @@
+pub mod Upto
+pub mod Tests
+pub mod Order
+pub mod Shuffle
+pub mod Quoted

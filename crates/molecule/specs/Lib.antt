@@ -1,0 +1,9 @@
+pub mod Kinds
+pub mod Limits
+pub mod Bonds
+pub mod Molecule
+pub mod Renumbering
+pub mod Refusals
+pub mod Layout
+pub mod Judged
+pub mod Written

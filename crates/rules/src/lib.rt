@@ -1,0 +1,1 @@
+// Definitions only: the four answers of document 01 stand under specs/.
