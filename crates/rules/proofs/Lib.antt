@@ -1,1 +1,3 @@
+pub mod Open
+mod TenExamples
 mod Examples

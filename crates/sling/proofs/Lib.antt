@@ -1,0 +1,3 @@
+pub mod Open
+mod ReadExamples
+mod WriteExamples
