@@ -1,8 +1,8 @@
 -- The vocabulary at work, by computation.
 use mathlib.Core.Bool.{true, false}
-use mathlib.Core.List.{List, [], _∷_}
+use mathlib.Core.List.{[], _∷_}
 use mathlib.Core.Path.{_≡_, refl}
-use Prim.Native.Nat.{ℕ, compare, Ordering, Ordering·lt}
+use Prim.Native.Nat.{compare, Ordering·lt}
 use lib.Dec.{eqb, ltb}
 use Rattle.lists.specs.Upto.{upto, each, sum}
 use Rattle.lists.specs.Tests.{keep, count, every, some, find}

@@ -1,5 +1,5 @@
 -- Document 01, "Numbers of refusal": a card judged by 1 to 8, and the molecule that it lists.
-use mathlib.Core.Bool.{Bool, cond, not, _&&_, _||_}
+use mathlib.Core.Bool.{cond, not, _||_}
 use mathlib.Core.List.{List, [], _∷_, map}
 use mathlib.Core.Path.{_≡_}
 use Prim.Native.Nat.{ℕ}

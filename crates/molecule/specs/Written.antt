@@ -1,5 +1,4 @@
 -- Document 01, "The card": the card written from a molecule.
-use mathlib.Core.Bool.{cond}
 use mathlib.Core.List.{List, [], _∷_, _++_, map, flatten}
 use Prim.Native.Nat.{ℕ, _/_, _%_}
 use lib.Dec.{ltb}

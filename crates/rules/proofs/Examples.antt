@@ -5,7 +5,7 @@ use Prim.Native.Nat.{ℕ}
 use Prim.Native.String.{String}
 use lib.ListN.{replicate}
 use Rattle.lists.specs.Quoted.{bytesOf, hex}
-use Rattle.rules.specs.Answers.{Answer, refused, accepted, atExit, nameOf, canonicalOf, marksOf, cardOf}
+use Rattle.rules.specs.Answers.{refused, accepted, atExit, nameOf, canonicalOf, marksOf, cardOf}
 use Rattle.rules.proofs.Open.{rules}
 
 named : String → ℕ → String → Type 0

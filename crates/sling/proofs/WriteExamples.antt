@@ -1,7 +1,6 @@
 -- Names of molecules whose atoms stand in rank order, by computation.
 use mathlib.Core.List.{List, [], _∷_, map}
 use mathlib.Core.Path.{_≡_, refl}
-use Prim.Native.Nat.{ℕ}
 use Prim.Native.String.{String}
 use Rattle.lists.specs.Quoted.{bytesOf, hex}
 use Rattle.molecule.specs.Judged.{moleculeOf}

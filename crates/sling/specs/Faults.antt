@@ -5,7 +5,7 @@ use Prim.Native.Nat.{ℕ, zero, suc}
 use lib.Dec.{eqb, leb, ltb}
 use lib.ListN.{length}
 use Rattle.lists.specs.Tests.{count, some}
-use Rattle.molecule.specs.Bonds.{Bond, on, joins}
+use Rattle.molecule.specs.Bonds.{on, joins}
 use Rattle.molecule.specs.Limits.{mostAtoms, mostHydrogensOn, mostHydrogens, mostBonds, mostBondsOn}
 use Rattle.sling.specs.Items.{Item, atom, reference, ring}
 use Rattle.sling.specs.Scanned.{Token, tok, bad}
