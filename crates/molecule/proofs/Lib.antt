@@ -1,3 +1,5 @@
-pub mod Open
+pub mod Renumberings
+pub mod Neighbours
 pub mod Sound
+pub mod Open
 mod Examples
