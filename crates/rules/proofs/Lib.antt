@@ -1,3 +1,8 @@
+pub mod Settled
+pub mod Whole
+pub mod Answered
+pub mod Same
+pub mod Again
 pub mod Open
 mod TenExamples
 mod Examples

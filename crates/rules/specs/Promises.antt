@@ -52,7 +52,7 @@ pub record Whole (R : Rule) (M : Molecule) : Type 0 where
   -- "Each marking is worked out through its children, and each child is again a marking"
   pub tree : {m : Marking} → InTree R M m → below R M m
       ≡ cond (eqb (shared (M .size) m) 0) (m ∷ [])
-        (flatten (map (λ a. below R M (refined R M (ahead (M .size) m (shared (M .size) m) a))) (holding (M .size) m (shared (M .size) m))))
+      (flatten (map (λ a. below R M (refined R M (ahead (M .size) m (shared (M .size) m) a))) (holding (M .size) m (shared (M .size) m))))
   -- "A marking with no shared rank is a complete numbering": each rank from 1 to n is held, and no two atoms share one
   pub complete : {m : Marking} → List·Memᴰ m (numberings R M) → shared (M .size) m ≡ 0
   pub held : {m : Marking} → List·Memᴰ m (numberings R M) → (r : ℕ) → r < M .size → (a : ℕ) × (a < M .size) × (at m a ≡ suc r)

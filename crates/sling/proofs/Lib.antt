@@ -1,3 +1,25 @@
+pub mod ListLaws
+pub mod Numbers
+pub mod Symbols
+pub mod Tokens
+pub mod Walks
+pub mod Tidy
+pub mod Counting
+pub mod Folds
+pub mod Limits
+pub mod Places
+pub mod Strokes
+pub mod Finished
+pub mod Clear
+pub mod Followed
+pub mod Codes
+pub mod Ranks
+pub mod Hydrogens
+pub mod Order
+pub mod Fits
+pub mod Lengths
+pub mod Names
+pub mod Alike
 pub mod Open
 mod ReadExamples
 mod WriteExamples

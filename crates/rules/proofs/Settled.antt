@@ -1,0 +1,115 @@
+-- Settled and Kept: a contract leaves no choice, since it says each part of a result; and what is lent keeps its length, and on a refusal its bytes,
+-- since a refusal has no bytes to write and an acceptance has them in the room.
+use mathlib.Core.Bool.{Bool, true, false, cond}
+use mathlib.Core.List.{List, [], _∷_}
+use mathlib.Core.Logic.{_≢_}
+use mathlib.Core.Path.{_≡_, refl, sym, _∙_}
+use Prim.Native.Nat.{ℕ, zero, suc, _≤_}
+use native.Mathlib.Omega.{arith}
+use borrow.Author.Tests.{ltb-false}
+use lib.Dec.{ltb, eqb}
+use lib.ListN.{length, drop, length-append, length-drop}
+use Rattle.molecule.specs.Molecule.{Molecule}
+use Rattle.molecule.specs.Judged.{moleculeOf, cardFault}
+use Rattle.molecule.specs.Written.{cardBytes}
+use Rattle.classes.specs.Refining.{rule1}
+use Rattle.classes.specs.Numberings.{leafCount}
+use Rattle.sling.specs.Scanned.{Token, tok, bad, tokens}
+use Rattle.sling.specs.Reading.{State, start, after}
+use Rattle.sling.specs.Faults.{Outcome, stopped, finished, itemFault, judged, run}
+use Rattle.sling.specs.Folded.{folded, loneH, ended, readText, mostText}
+use Rattle.rules.specs.Answers.{Answer, refused, accepted, inRoom, atExit, numbered, unlessFaulty, ofCard, nameOut, canonicalOut, marksOut, nameOf, cardOf, canonicalOf, marksOf, readInto}
+use Rattle.rules.specs.Contracts.{Result}
+use Rattle.rules.specs.Promises.{Settled, KeptBy, AlwaysKept}
+
+pub settled : Settled
+settled a lent r r′ p q = λ i. record {
+  refusal = (p .refusal ∙ sym (q .refusal)) i;
+  place = (p .place ∙ sym (q .place)) i;
+  leaves = (p .leaves ∙ sym (q .leaves)) i;
+  length = (p .written ∙ sym (q .written)) i;
+  lent = (p .lent ∙ sym (q .lent)) i;
+}
+
+refused-keeps : (n p : ℕ) (lent : List ℕ) → KeptBy (refused (suc n) p) lent
+unfolding atExit
+refused-keeps n p lent = record { whole = refl; untouched = λ ne. refl; nothing = λ ne. (refl, refl); place = λ e. absurd (omega arith) }
+
+accepted-keeps : (k : ℕ) (out lent : List ℕ) → length out ≤ length lent → KeptBy (accepted k out) lent
+unfolding atExit
+accepted-keeps k out lent h = record {
+  whole = length-append out (drop (length out) lent) ∙ omega (arith, length-drop (length out) lent);
+  untouched = λ ne. absurd (ne refl);
+  nothing = λ ne. absurd (ne refl);
+  place = λ e. refl;
+}
+
+inRoom-keeps : (p k : ℕ) (out lent : List ℕ) → KeptBy (inRoom (length lent) p k out) lent
+unfolding inRoom
+inRoom-keeps p k out lent = go (ltb (length lent) (length out)) refl
+  where
+    go : (b : Bool) → ltb (length lent) (length out) ≡ b → KeptBy (cond b (refused 10 p) (accepted k out)) lent
+    go true e = refused-keeps 9 p lent
+    go false e = accepted-keeps k out lent (ltb-false (length lent) (length out) e)
+
+numbered-keeps : (out : Molecule → List ℕ) (allowance : ℕ) (M : Molecule) (lent : List ℕ) → KeptBy (numbered out allowance (length lent) M) lent
+unfolding numbered
+numbered-keeps out allowance M lent = go (ltb allowance (leafCount rule1 M))
+  where
+    go : (b : Bool) → KeptBy (cond b (refused 9 0) (inRoom (length lent) 0 (leafCount rule1 M) (out M))) lent
+    go true = refused-keeps 8 0 lent
+    go false = inRoom-keeps 0 (leafCount rule1 M) (out M) lent
+
+card-keeps : (out : Molecule → List ℕ) (card : List ℕ) (allowance : ℕ) (lent : List ℕ) → KeptBy (ofCard out card allowance (length lent)) lent
+unfolding ofCard
+card-keeps out card allowance lent = go (cardFault card)
+  where
+    go : (n : ℕ) → KeptBy (unlessFaulty n (numbered out allowance (length lent) (moleculeOf card))) lent
+    go zero = numbered-keeps out allowance (moleculeOf card) lent
+    go (suc n) = refused-keeps n 0 lent
+
+-- a refusal is a number that is not 0
+abbrev Proper : Outcome → Type 0
+Proper (stopped n p) = n ≢ 0
+Proper (finished st) = Unit
+
+run-proper : (ts : List Token) (st : State) → Proper (run ts st)
+unfolding run
+run-proper [] st = tt
+run-proper (bad o ∷ ts) st = λ e. omega arith
+run-proper (tok o i ∷ ts) st = go (itemFault st i) (run-proper ts (after st i))
+  where
+    go : (n : ℕ) → Proper (run ts (after st i)) → Proper (judged n o (after st i) (run ts))
+    go zero ih = ih
+    go (suc n) ih = λ e. omega arith
+
+ended-proper : (o : Outcome) (size : ℕ) → Proper o → Proper (ended o size)
+ended-proper (stopped n p) size h = h
+ended-proper (finished st) size h = go (loneH st)
+  where
+    go : (b : Bool) → Proper (cond b (stopped 7 size) (finished st))
+    go true = λ e. omega arith
+    go false = tt
+
+readText-proper : (s : List ℕ) → Proper (readText s)
+unfolding readText
+readText-proper s = go (eqb (length s) 0) (ltb mostText (length s))
+  where
+    go : (b c : Bool) → Proper (cond b (stopped 1 0) (cond c (stopped 4 0) (ended (run (tokens s 0 0) start) (length s))))
+    go true c = λ e. omega arith
+    go false true = λ e. omega arith
+    go false false = ended-proper (run (tokens s 0 0) start) (length s) (run-proper (tokens s 0 0) start)
+
+read-keeps : (o : Outcome) (size : ℕ) (lent : List ℕ) → Proper o → KeptBy (readInto o (length lent) size) lent
+read-keeps (stopped zero p) size lent h = absurd (h refl)
+read-keeps (stopped (suc n) p) size lent h = refused-keeps n p lent
+read-keeps (finished st) size lent h = inRoom-keeps size 0 (cardBytes (folded st)) lent
+
+pub kept : AlwaysKept
+unfolding nameOf cardOf canonicalOf marksOf
+kept = record {
+  name = card-keeps nameOut;
+  card = λ text lent. read-keeps (readText text) (length text) lent (readText-proper text);
+  canonical = card-keeps canonicalOut;
+  marks = card-keeps marksOut;
+}

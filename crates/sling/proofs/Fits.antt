@@ -1,0 +1,110 @@
+-- A molecule within the limits, and its counts: they do not change when it is renumbered, and for the molecule folded from a reader they are
+-- the reader's own.
+use mathlib.Core.Path.{_≡_, refl, sym, ap, _∙_, subst}
+use mathlib.Core.Bool.{Bool, true, false, not, _&&_}
+use mathlib.Core.List.{List}
+use Prim.Native.Nat.{ℕ, _<_, _≤_}
+use native.Mathlib.Omega.{arith}
+use lib.ListN.{length, getD, List·getD-eq-default}
+use lib.Dec.{eqb, ltb}
+use borrow.Author.Tests.{ltb-true, ltb-false}
+use Rattle.lists.specs.Upto.{upto, each, sum}
+use Rattle.lists.specs.Tests.{count}
+use Rattle.lists.proofs.Counts.{length-keep}
+use Rattle.lists.proofs.Kept.{mem-keep}
+use Rattle.lists.proofs.Permutation.{count-perm, sum-perm}
+use Rattle.lists.proofs.Shuffled.{each-perm, shuffle-onto}
+use Rattle.lists.proofs.Upto.{mem-upto}
+use Rattle.molecule.specs.Bonds.{on}
+use Rattle.molecule.specs.Molecule.{Molecule, hydrogens, bonded, neighbours}
+use Rattle.molecule.specs.Renumbering.{Renumbered}
+use Rattle.molecule.proofs.Sound.{Sound}
+use Rattle.sling.specs.Reading.{State, isH, toH, hydrogensOn, bondsOn}
+use Rattle.sling.specs.Folded.{heavyPlaces, folded, loneH}
+use Rattle.sling.proofs.ListLaws.{and-l, count-map-le}
+use Rattle.sling.proofs.Counting.{mem-getD}
+use Rattle.sling.proofs.Tidy.{Tidy}
+use Rattle.sling.proofs.Folds.{folded-size, folded-degree, folded-bonds, folded-hydrogens}
+use Rattle.sling.proofs.Limits.{Room}
+
+pub record Fits (M : Molecule) : Type 0 where
+  pub atoms : M .size ≤ 64
+  pub few : (a : ℕ) → a < M .size → hydrogens M a ≤ 4
+  pub hydrogens : sum (each (M .size) (hydrogens M)) ≤ 128
+  pub bonds : sum (each (M .size) (λ a. length (neighbours M a))) ≤ 160
+  pub degrees : (a : ℕ) → a < M .size → length (neighbours M a) ≤ 6
+
+pub sound-fits : (M : Molecule) → Sound M → Fits M
+sound-fits M S = record { atoms = S .atoms; hydrogens = S .hydrogens; bonds = S .bonds; few = S .few; degrees = S .degrees }
+
+module _ {σ : ℕ → ℕ} {M M′ : Molecule} (E : Renumbered σ M M′) where
+  sum-along : (f f′ : ℕ → ℕ) → ((a : ℕ) → a < M .size → f′ (σ a) ≡ f a) → sum (each (M′ .size) f′) ≡ sum (each (M .size) f)
+  sum-along f f′ h = ap (λ (n : ℕ). sum (each n f′)) (E .size) ∙ sum-perm (each-perm (E .shuffle) f f′ h)
+
+  hydrogens-along : (a : ℕ) → a < M .size → hydrogens M′ (σ a) ≡ hydrogens M a
+  hydrogens-along a h = ap (λ (l : List ℕ). getD l 1 0) (E .label a h)
+
+  degree-along : (a : ℕ) → a < M .size → length (neighbours M′ (σ a)) ≡ length (neighbours M a)
+  unfolding neighbours each
+  degree-along a h =
+      length-keep (bonded M′ (σ a)) (upto (M′ .size))
+      ∙ ap (λ (n : ℕ). count (each n (bonded M′ (σ a)))) (E .size)
+      ∙ count-perm (each-perm (E .shuffle) (bonded M a) (bonded M′ (σ a)) (λ b k. ap (λ (c : ℕ). not (eqb c 0)) (E .code a b h k)))
+      ∙ sym (length-keep (bonded M a) (upto (M .size)))
+
+  -- a bound on each atom of M is one on each atom of M′
+  bound-along : (f f′ : ℕ → ℕ) (m : ℕ) → ((a : ℕ) → a < M .size → f′ (σ a) ≡ f a) → ((a : ℕ) → a < M .size → f a ≤ m) → (b : ℕ) → b < M′ .size → f′ b ≤ m
+  bound-along f f′ m e h b k =
+      let w = shuffle-onto (E .shuffle) b (omega (arith, E .size)) in
+      omega (arith, ap f′ (w .2), e (w .0) (w .1), h (w .0) (w .1))
+
+  pub fits-along : Fits M → Fits M′
+  fits-along F =
+      record {
+        atoms = omega (arith, E .size, F .atoms);
+        hydrogens = omega (arith, sum-along (hydrogens M) (hydrogens M′) hydrogens-along, F .hydrogens);
+        bonds = omega (arith, sum-along (λ a. length (neighbours M a)) (λ a. length (neighbours M′ a)) degree-along, F .bonds);
+        few = bound-along (hydrogens M) (hydrogens M′) 4 hydrogens-along (F .few);
+        degrees = bound-along (λ a. length (neighbours M a)) (λ a. length (neighbours M′ a)) 6 degree-along (F .degrees);
+      }
+
+module _ (st : State) (t : Tidy (st .kinds) (st .bonds)) (lone : loneH st ≡ false) where
+  pub room-fits : Room st → Fits (folded st)
+  unfolding folded
+  room-fits R =
+      record {
+        atoms = omega (arith, folded-size st t, R .atoms);
+        hydrogens = omega (arith, folded-hydrogens st t lone, R .hydrogens);
+        bonds = omega (arith, folded-bonds st t, R .bonds);
+        few = λ a h. R .hydrogensAt (getD (heavyPlaces st) a 0);
+        degrees = λ a h. omega (arith, folded-degree st t a h, R .bondsAt (getD (heavyPlaces st) a 0));
+      }
+
+  -- the atom at a heavy place
+  atom-at : (p : ℕ) → isH st p ≡ false → (a : ℕ) × (a < folded st .size) × (getD (heavyPlaces st) a 0 ≡ p)
+  unfolding folded heavyPlaces
+  atom-at p e =
+      mem-getD (heavyPlaces st) p 0 (mem-keep (λ q. not (isH st q)) (upto (length (st .kinds))) p (mem-upto (length (st .kinds)) p (within (ltb p (length (st .kinds))) refl)) (ap not e))
+    where
+      within : (b : Bool) → ltb p (length (st .kinds)) ≡ b → p < length (st .kinds)
+      within true q = ltb-true _ _ q
+      within false q = absurd (let z = rw (List·getD-eq-default (st .kinds) 0 (ltb-false p (length (st .kinds)) q)) at e in let c : _≡_ {A = ℕ} 0 1 = cc in omega arith)
+
+  pub fits-room : Fits (folded st) → Room st
+  unfolding folded
+  fits-room F =
+      record {
+        atoms = omega (arith, folded-size st t, F .atoms);
+        hydrogens = omega (arith, folded-hydrogens st t lone, F .hydrogens);
+        bonds = omega (arith, folded-bonds st t, F .bonds);
+        hydrogensAt = λ p. hs p (isH st p) refl;
+        bondsAt = λ p. bs p (isH st p) refl;
+      }
+    where
+      hs : (p : ℕ) (b : Bool) → isH st p ≡ b → hydrogensOn st p ≤ 4
+      hs p true e = omega (arith, count-map-le (λ b. on p b && toH st b) (on p) (λ b z. and-l (on p b) _ z) (st .bonds), t .leaf p e)
+      hs p false e = let w = atom-at p e in subst (λ (q : ℕ). hydrogensOn st q ≤ 4) (w .2) (F .few (w .0) (w .1))
+
+      bs : (p : ℕ) (b : Bool) → isH st p ≡ b → bondsOn st p ≤ 6
+      bs p true e = omega (arith, count-map-le (λ b. on p b && not (toH st b)) (on p) (λ b z. and-l (on p b) _ z) (st .bonds), t .leaf p e)
+      bs p false e = let w = atom-at p e in subst (λ (q : ℕ). bondsOn st q ≤ 6) (w .2) (omega (arith, folded-degree st t (w .0) (w .1), F .degrees (w .0) (w .1)))
