@@ -1,3 +1,5 @@
+pub mod Open
+mod Examples
 pub mod Booleans
 pub mod Upto
 pub mod Tested
@@ -12,5 +14,3 @@ pub mod Running
 pub mod Sorted
 pub mod Permutation
 pub mod Shuffled
-pub mod Open
-mod Examples

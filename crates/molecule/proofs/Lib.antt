@@ -1,3 +1,5 @@
+pub mod Open
+mod Examples
 pub mod ListLaws
 pub mod KindsTable
 pub mod Renumberings
@@ -13,5 +15,3 @@ pub mod BondsFit
 pub mod Fields
 pub mod CardRead
 pub mod CardBack
-pub mod Open
-mod Examples

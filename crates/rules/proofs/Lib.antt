@@ -1,8 +1,10 @@
+pub mod Open
+mod TenExamples
+mod Examples
+pub mod Stopped
 pub mod Settled
 pub mod Whole
 pub mod Answered
 pub mod Same
 pub mod Again
-pub mod Open
-mod TenExamples
-mod Examples
+pub mod Read

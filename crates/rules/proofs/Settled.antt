@@ -21,6 +21,7 @@ use Rattle.sling.specs.Folded.{folded, loneH, ended, readText, mostText}
 use Rattle.rules.specs.Answers.{Answer, refused, accepted, inRoom, atExit, numbered, unlessFaulty, ofCard, nameOut, canonicalOut, marksOut, nameOf, cardOf, canonicalOf, marksOf, readInto}
 use Rattle.rules.specs.Contracts.{Result}
 use Rattle.rules.specs.Promises.{Settled, KeptBy, AlwaysKept}
+use Rattle.rules.proofs.Stopped.{Proper, readText-proper}
 
 pub settled : Settled
 settled a lent r r′ p q = λ i. record {
@@ -67,38 +68,6 @@ card-keeps out card allowance lent = go (cardFault card)
     go : (n : ℕ) → KeptBy (unlessFaulty n (numbered out allowance (length lent) (moleculeOf card))) lent
     go zero = numbered-keeps out allowance (moleculeOf card) lent
     go (suc n) = refused-keeps n 0 lent
-
--- a refusal is a number that is not 0
-abbrev Proper : Outcome → Type 0
-Proper (stopped n p) = n ≢ 0
-Proper (finished st) = Unit
-
-run-proper : (ts : List Token) (st : State) → Proper (run ts st)
-unfolding run
-run-proper [] st = tt
-run-proper (bad o ∷ ts) st = λ e. omega arith
-run-proper (tok o i ∷ ts) st = go (itemFault st i) (run-proper ts (after st i))
-  where
-    go : (n : ℕ) → Proper (run ts (after st i)) → Proper (judged n o (after st i) (run ts))
-    go zero ih = ih
-    go (suc n) ih = λ e. omega arith
-
-ended-proper : (o : Outcome) (size : ℕ) → Proper o → Proper (ended o size)
-ended-proper (stopped n p) size h = h
-ended-proper (finished st) size h = go (loneH st)
-  where
-    go : (b : Bool) → Proper (cond b (stopped 7 size) (finished st))
-    go true = λ e. omega arith
-    go false = tt
-
-readText-proper : (s : List ℕ) → Proper (readText s)
-unfolding readText
-readText-proper s = go (eqb (length s) 0) (ltb mostText (length s))
-  where
-    go : (b c : Bool) → Proper (cond b (stopped 1 0) (cond c (stopped 4 0) (ended (run (tokens s 0 0) start) (length s))))
-    go true c = λ e. omega arith
-    go false true = λ e. omega arith
-    go false false = ended-proper (run (tokens s 0 0) start) (length s) (run-proper (tokens s 0 0) start)
 
 read-keeps : (o : Outcome) (size : ℕ) (lent : List ℕ) → Proper o → KeptBy (readInto o (length lent) size) lent
 read-keeps (stopped zero p) size lent h = absurd (h refl)

@@ -108,3 +108,8 @@ pub record Again (card : List ℕ) (allowance room : ℕ) : Type 0 where
 
 abbrev pub AlwaysAgain : Type 0
 AlwaysAgain = (card : List ℕ) (allowance room : ℕ) → nameOf card allowance room .refusal ≡ 0 → Again card allowance room
+
+-- ---- Read: a card that is written for a text is well formed ("Text is connected by its making")
+
+abbrev pub AlwaysRead : Type 0
+AlwaysRead = (text : List ℕ) (room : ℕ) → cardOf text room .refusal ≡ 0 → WellFormed (cardOf text room .bytes)

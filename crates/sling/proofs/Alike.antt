@@ -2,8 +2,7 @@
 use mathlib.Core.Path.{_≡_, refl, sym, ap, ap₂, _∙_}
 use mathlib.Core.Bool.{false, not}
 use mathlib.Core.List.{List, [], _∷_, map}
-use Prim.Native.Nat.{ℕ, zero, suc, _<_, _≤_}
-use native.Mathlib.Nat.{not-suc-le-zero}
+use Prim.Native.Nat.{ℕ, zero, suc, _<_}
 use native.Mathlib.Omega.{arith}
 use lib.ListN.{getD}
 use lib.Dec.{eqb}
@@ -17,8 +16,7 @@ use Rattle.sling.specs.Items.{atom}
 use Rattle.sling.specs.Walk.{kindAt, hydrogensAt, neighboursAt, codeAt, Written, serve, put, putHs, trace, traces, finish, first, written}
 use Rattle.sling.specs.Printed.{bytes, nameBytes}
 use Rattle.sling.proofs.ListLaws.{All, all-map}
-use Rattle.sling.proofs.Strokes.{Rank}
-use Rattle.sling.proofs.Finished.{near-all}
+use Rattle.sling.proofs.Strokes.{Rank, near-all}
 
 module _ (W W′ : Molecule) (E : Renumbered (λ a. a) W W′) where
   kind-alike : (r : ℕ) → Rank W r → kindAt W′ r ≡ kindAt W r

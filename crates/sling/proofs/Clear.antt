@@ -1,13 +1,13 @@
 -- When an item is clear: an atom put on a heavy atom, an H put on one, a ring bond between two heavy atoms that are not bonded yet, and a
 -- reference to a place that is there.
 use mathlib.Core.Path.{_≡_, refl, ap, _∙_}
-use mathlib.Core.Bool.{Bool, true, false, cond, _&&_, _||_, and-false, or-true}
+use mathlib.Core.Bool.{false, and-false, or-true}
 use mathlib.Core.List.{List, [], _∷_, _++_, map}
-use Prim.Native.Nat.{ℕ, _+_, _<_, _≤_}
+use Prim.Native.Nat.{ℕ, _<_, _≤_}
 use native.Mathlib.Omega.{arith}
-use lib.ListN.{length, getD, List·getD-append}
+use lib.ListN.{length, List·getD-append}
 use lib.Seq.{getD-append-seam}
-use lib.Dec.{eqb, ltb}
+use lib.Dec.{eqb}
 use borrow.Author.Tests.{eq-eqb, ne-eqb, le-ltb, lt-leb}
 use Rattle.lists.specs.Tests.{count, some}
 use Rattle.molecule.specs.Bonds.{Bond, on, joins}

@@ -17,7 +17,7 @@ use Rattle.sling.specs.Walk.{codeAt, placeIn, isTraced, written}
 use Rattle.sling.proofs.ListLaws.{All, all-map, all-snoc}
 use Rattle.sling.proofs.Tidy.{bond, joins-ends}
 use Rattle.sling.proofs.Places.{On, rank-at}
-use Rattle.sling.proofs.Strokes.{Rank, Near, Keeps}
+use Rattle.sling.proofs.Strokes.{Rank, Keeps}
 use Rattle.sling.proofs.Finished.{written-keeps, all-on, all-traced}
 
 -- a bond within the places, to an H or with the code of the ranks at its ends

@@ -5,11 +5,11 @@ use mathlib.Core.Bool.{Bool, true, false, not, _&&_}
 use mathlib.Core.List.{List}
 use Prim.Native.Nat.{ℕ, _<_, _≤_}
 use native.Mathlib.Omega.{arith}
-use lib.ListN.{length, getD, List·getD-eq-default}
-use lib.Dec.{eqb, ltb}
-use borrow.Author.Tests.{ltb-true, ltb-false}
+use lib.ListN.{length, getD}
+use lib.Dec.{eqb}
 use Rattle.lists.specs.Upto.{upto, each, sum}
 use Rattle.lists.specs.Tests.{count}
+use Rattle.lists.proofs.Booleans.{and-both}
 use Rattle.lists.proofs.Counts.{length-keep}
 use Rattle.lists.proofs.Kept.{mem-keep}
 use Rattle.lists.proofs.Permutation.{count-perm, sum-perm}
@@ -21,9 +21,9 @@ use Rattle.molecule.specs.Renumbering.{Renumbered}
 use Rattle.molecule.proofs.Sound.{Sound}
 use Rattle.sling.specs.Reading.{State, isH, toH, hydrogensOn, bondsOn}
 use Rattle.sling.specs.Folded.{heavyPlaces, folded, loneH}
-use Rattle.sling.proofs.ListLaws.{and-l, count-map-le}
+use Rattle.sling.proofs.ListLaws.{count-map-le}
 use Rattle.sling.proofs.Counting.{mem-getD}
-use Rattle.sling.proofs.Tidy.{Tidy}
+use Rattle.sling.proofs.Tidy.{Tidy, heavy-within}
 use Rattle.sling.proofs.Folds.{folded-size, folded-degree, folded-bonds, folded-hydrogens}
 use Rattle.sling.proofs.Limits.{Room}
 
@@ -53,7 +53,8 @@ module _ {σ : ℕ → ℕ} {M M′ : Molecule} (E : Renumbered σ M M′) where
       ∙ sym (length-keep (bonded M a) (upto (M .size)))
 
   -- a bound on each atom of M is one on each atom of M′
-  bound-along : (f f′ : ℕ → ℕ) (m : ℕ) → ((a : ℕ) → a < M .size → f′ (σ a) ≡ f a) → ((a : ℕ) → a < M .size → f a ≤ m) → (b : ℕ) → b < M′ .size → f′ b ≤ m
+  bound-along : (f f′ : ℕ → ℕ) (m : ℕ) → ((a : ℕ) → a < M .size → f′ (σ a) ≡ f a) → ((a : ℕ) → a < M .size → f a ≤ m)
+      → (b : ℕ) → b < M′ .size → f′ b ≤ m
   bound-along f f′ m e h b k =
       let w = shuffle-onto (E .shuffle) b (omega (arith, E .size)) in
       omega (arith, ap f′ (w .2), e (w .0) (w .1), h (w .0) (w .1))
@@ -68,6 +69,13 @@ module _ {σ : ℕ → ℕ} {M M′ : Molecule} (E : Renumbered σ M M′) where
         degrees = bound-along (λ a. length (neighbours M a)) (λ a. length (neighbours M′ a)) 6 degree-along (F .degrees);
       }
 
+-- the atom at a heavy place
+pub atom-at : (st : State) (p : ℕ) → isH st p ≡ false → (a : ℕ) × (a < folded st .size) × (getD (heavyPlaces st) a 0 ≡ p)
+unfolding folded heavyPlaces
+atom-at st p e =
+    let p-in = mem-upto (length (st .kinds)) p (heavy-within (st .kinds) p e) in
+    mem-getD (heavyPlaces st) p 0 (mem-keep (λ q. not (isH st q)) (upto (length (st .kinds))) p p-in (ap not e))
+
 module _ (st : State) (t : Tidy (st .kinds) (st .bonds)) (lone : loneH st ≡ false) where
   pub room-fits : Room st → Fits (folded st)
   unfolding folded
@@ -79,16 +87,6 @@ module _ (st : State) (t : Tidy (st .kinds) (st .bonds)) (lone : loneH st ≡ fa
         few = λ a h. R .hydrogensAt (getD (heavyPlaces st) a 0);
         degrees = λ a h. omega (arith, folded-degree st t a h, R .bondsAt (getD (heavyPlaces st) a 0));
       }
-
-  -- the atom at a heavy place
-  atom-at : (p : ℕ) → isH st p ≡ false → (a : ℕ) × (a < folded st .size) × (getD (heavyPlaces st) a 0 ≡ p)
-  unfolding folded heavyPlaces
-  atom-at p e =
-      mem-getD (heavyPlaces st) p 0 (mem-keep (λ q. not (isH st q)) (upto (length (st .kinds))) p (mem-upto (length (st .kinds)) p (within (ltb p (length (st .kinds))) refl)) (ap not e))
-    where
-      within : (b : Bool) → ltb p (length (st .kinds)) ≡ b → p < length (st .kinds)
-      within true q = ltb-true _ _ q
-      within false q = absurd (let z = rw (List·getD-eq-default (st .kinds) 0 (ltb-false p (length (st .kinds)) q)) at e in let c : _≡_ {A = ℕ} 0 1 = cc in omega arith)
 
   pub fits-room : Fits (folded st) → Room st
   unfolding folded
@@ -102,9 +100,9 @@ module _ (st : State) (t : Tidy (st .kinds) (st .bonds)) (lone : loneH st ≡ fa
       }
     where
       hs : (p : ℕ) (b : Bool) → isH st p ≡ b → hydrogensOn st p ≤ 4
-      hs p true e = omega (arith, count-map-le (λ b. on p b && toH st b) (on p) (λ b z. and-l (on p b) _ z) (st .bonds), t .leaf p e)
-      hs p false e = let w = atom-at p e in subst (λ (q : ℕ). hydrogensOn st q ≤ 4) (w .2) (F .few (w .0) (w .1))
+      hs p true e = omega (arith, count-map-le (λ b. on p b && toH st b) (on p) (λ b z. and-both (on p b) _ z .0) (st .bonds), t .leaf p e)
+      hs p false e = let w = atom-at st p e in subst (λ (q : ℕ). hydrogensOn st q ≤ 4) (w .2) (F .few (w .0) (w .1))
 
       bs : (p : ℕ) (b : Bool) → isH st p ≡ b → bondsOn st p ≤ 6
-      bs p true e = omega (arith, count-map-le (λ b. on p b && not (toH st b)) (on p) (λ b z. and-l (on p b) _ z) (st .bonds), t .leaf p e)
-      bs p false e = let w = atom-at p e in subst (λ (q : ℕ). bondsOn st q ≤ 6) (w .2) (omega (arith, folded-degree st t (w .0) (w .1), F .degrees (w .0) (w .1)))
+      bs p true e = omega (arith, count-map-le (λ b. on p b && not (toH st b)) (on p) (λ b z. and-both (on p b) _ z .0) (st .bonds), t .leaf p e)
+      bs p false e = let w = atom-at st p e in subst (λ (q : ℕ). bondsOn st q ≤ 6) (w .2) (omega (arith, folded-degree st t (w .0) (w .1), F .degrees (w .0) (w .1)))

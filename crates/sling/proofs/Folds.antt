@@ -1,29 +1,29 @@
 -- The counts that a reader keeps to its limits are those of the molecule folded from it: atoms, hydrogens, bonds, and bonds on an atom.
 -- Each is one count of pairs of a place and a bond on it, taken once by places and once by bonds.
-use mathlib.Core.Path.{_≡_, refl, sym, ap, _∙_, subst}
-use mathlib.Core.Bool.{Bool, true, false, cond, not, _&&_, _||_, and-false, and-true, or-false, or-true}
+use mathlib.Core.Path.{_≡_, refl, sym, ap, _∙_}
+use mathlib.Core.Bool.{Bool, true, false, cond, not, _&&_, _||_, and-false, and-true, or-false, or-true, true≢false}
 use mathlib.Core.List.{List, [], _∷_, map}
 use mathlib.Core.Logic.{⊎-elim}
-use Prim.Native.Nat.{ℕ, zero, suc, _+_, _*_, _<_, _≤_}
+use Prim.Native.Nat.{ℕ, zero, suc, _+_, _*_, _<_}
 use native.Mathlib.Omega.{arith}
 use lib.ListN.{length, getD}
-use lib.Dec.{eqb, ltb}
-use borrow.Author.Tests.{eq-eqb, ne-eqb, lt-ltb, le-ltb, ltb-true, ltb-false, eqb-true, eqb-false, not-true}
+use lib.Dec.{eqb}
+use borrow.Author.Tests.{eq-eqb, ne-eqb, eqb-true, eqb-false, not-true}
 use Rattle.lists.specs.Upto.{upto, each, sum}
 use Rattle.lists.specs.Tests.{keep, count, some}
+use Rattle.lists.proofs.Booleans.{or-neither}
 use Rattle.lists.proofs.Sums.{sum-eq, count-sum}
 use Rattle.lists.proofs.Kept.{map-eq, of-keep}
 use Rattle.lists.proofs.Upto.{of-upto}
-use Rattle.lists.proofs.Counts.{count-eq, count-none, count-split, length-keep}
-use Rattle.lists.proofs.Tested.{some-count}
+use Rattle.lists.proofs.Counts.{count-none, count-split, length-keep}
 use Rattle.molecule.specs.Bonds.{Bond, on, joins, codeIn}
-use Rattle.molecule.specs.Molecule.{Molecule, hydrogens, bonded, neighbours}
+use Rattle.molecule.specs.Molecule.{hydrogens, bonded, neighbours}
 use Rattle.sling.specs.Reading.{State, isH, toH, hydrogensOn, bondsOn}
 use Rattle.sling.specs.Faults.{heavyAtoms, hydrogenAtoms, heavyBonds}
 use Rattle.sling.specs.Folded.{heavyPlaces, folded, loneH}
-use Rattle.sling.proofs.ListLaws.{All, map-all, or-l, or-r, count-not, count-map-le, count-keep}
+use Rattle.sling.proofs.ListLaws.{All, map-all, count-not, count-map-le, count-keep, some-counted, some-one}
 use Rattle.sling.proofs.Counting.{getD-mem, sum-swap, count-each-only, each-getD}
-use Rattle.sling.proofs.Tidy.{Proper, Tidy, joins-ends}
+use Rattle.sling.proofs.Tidy.{Proper, Tidy, joins-ends, first-joined, Joined}
 
 -- the places that pass a test and are an end of a bond
 ends-count : (n : ℕ) (f : ℕ → Bool) (b : Bond) → b .one < n → b .two < n → (b .one ≡ b .two → ⊥)
@@ -40,16 +40,16 @@ ends-count n f b h k ne =
 
 -- of a bond that is not between two H: how many of its ends are H, and how many are not, if it is to an H or if it is not
 one-heavy : (x y : Bool) → (x && y) ≡ false → (x || y) ≡ true → cond {A = ℕ} (not x) 1 0 + cond (not y) 1 0 ≡ 1
-one-heavy true true e f = absurd (let z : _≡_ {A = ℕ} 0 1 = cc in omega arith)
+one-heavy true true e f = absurd (true≢false e)
 one-heavy true false e f = refl
 one-heavy false true e f = refl
-one-heavy false false e f = absurd (let z : _≡_ {A = ℕ} 0 1 = cc in omega arith)
+one-heavy false false e f = absurd (true≢false (sym f))
 
 two-heavy : (x y : Bool) → (x || y) ≡ false → cond {A = ℕ} (not x) 1 0 + cond (not y) 1 0 ≡ 2
-two-heavy x y f = rw (or-l x y f, or-r x y f)
+two-heavy x y f = let n = or-neither x y f in rw (n .0, n .1)
 
 one-h : (x y : Bool) → (x && y) ≡ false → cond {A = ℕ} x 1 0 + cond y 1 0 ≡ cond (x || y) 1 0
-one-h true true e = absurd (let z : _≡_ {A = ℕ} 0 1 = cc in omega arith)
+one-h true true e = absurd (true≢false e)
 one-h true false e = refl
 one-h false y e = omega arith
 
@@ -105,30 +105,24 @@ by-bonds st h r v e a =
     ∙ ap sum (map-all _ v (λ b g. count-keep h (λ p. r p b) (upto (length (st .kinds))) ∙ e b g) (st .bonds) a)
 
 -- codes are over 0, so that a pair has a code exactly if it is joined
-code-joined : (ks : List ℕ) (p q : ℕ) (bs : List Bond) → All (Proper ks) bs → not (eqb (codeIn bs p q) 0) ≡ some (map (joins p q) bs)
+pub code-joined : (ks : List ℕ) (p q : ℕ) (bs : List Bond) → All (Proper ks) bs → not (eqb (codeIn bs p q) 0) ≡ some (map (joins p q) bs)
 unfolding some
 code-joined ks p q [] a = refl
 code-joined ks p q (b ∷ bs) a = pick (joins p q b) refl (code-joined ks p q bs (a .1))
   where
-    pick : (x : Bool) → joins p q b ≡ x → not (eqb (codeIn bs p q) 0) ≡ some (map (joins p q) bs) → not (eqb (codeIn (b ∷ bs) p q) 0) ≡ some (map (joins p q) (b ∷ bs))
+    pick : (x : Bool) → joins p q b ≡ x → not (eqb (codeIn bs p q) 0) ≡ some (map (joins p q) bs)
+        → not (eqb (codeIn (b ∷ bs) p q) 0) ≡ some (map (joins p q) (b ∷ bs))
     pick true e i = simp (e, ne-eqb (b .code) 0 (λ z. omega (arith, a .0 .mark .0)))
     pick false e i = simp e i
 
-some-one : (l : List Bool) → count l ≤ 1 → cond {A = ℕ} (some l) 1 0 ≡ count l
-some-one l h = pick (ltb 0 (count l)) refl
-  where
-    pick : (x : Bool) → ltb 0 (count l) ≡ x → cond {A = ℕ} (some l) 1 0 ≡ count l
-    pick true e = let k : 0 < count l = ltb-true 0 _ e in simp (some-count l, e) (omega arith)
-    pick false e = let k = some-count l in simp (some-count l, e) (let z : count l ≤ 0 = ltb-false 0 _ e in omega arith)
-
-end-of : (c p : ℕ) (b : Bond) → joins c p b ≡ true → (on c b ≡ true) × (on p b ≡ true)
+pub end-of : (c p : ℕ) (b : Bond) → joins c p b ≡ true → (on c b ≡ true) × (on p b ≡ true)
 end-of c p b e = ⊎-elim
     (λ (z : (b .one ≡ c) × (b .two ≡ p)). (simp (eq-eqb _ _ (z .0)), simp (eq-eqb _ _ (z .1), or-true)))
     (λ (z : (b .one ≡ p) × (b .two ≡ c)). (simp (eq-eqb _ _ (z .1), or-true), simp (eq-eqb _ _ (z .0))))
     (joins-ends c p b e)
 
 -- where there is a bond there is a second place
-second : (ks : List ℕ) (bs : List Bond) → (length bs ≡ 0 → ⊥) → All (Proper ks) bs → 1 < length ks
+pub second : (ks : List ℕ) (bs : List Bond) → (length bs ≡ 0 → ⊥) → All (Proper ks) bs → 1 < length ks
 second ks [] n a = absurd (n refl)
 second ks (b ∷ bs) n a = let x = a .0 .one in let y = a .0 .two in let d : b .one ≡ b .two → ⊥ = a .0 .apart in omega arith
 
@@ -188,18 +182,17 @@ module _ (st : State) (t : Tidy (st .kinds) (st .bonds)) where
       ∙ sym (count-sum (toH st) (st .bonds))
 
   -- an H has exactly one bond, but for an H alone
-  joined-on : (c p : ℕ) → some (map (joins c p) (st .bonds)) ≡ true → (0 < count (map (on c) (st .bonds))) × (0 < count (map (on p) (st .bonds)))
+  joined-on : (c p : ℕ) → Joined (st .bonds) c p → (0 < count (map (on c) (st .bonds))) × (0 < count (map (on p) (st .bonds)))
   joined-on c p e =
-      let k : 0 < count (map (joins c p) (st .bonds)) = ltb-true 0 _ (sym (some-count (map (joins c p) (st .bonds))) ∙ e) in
-      (omega (arith, count-map-le (joins c p) (on c) (λ b z. end-of c p b z .0) (st .bonds)), omega (arith, count-map-le (joins c p) (on p) (λ b z. end-of c p b z .1) (st .bonds)))
+      let k : 0 < count (map (joins c p) (st .bonds)) = some-counted _ e in
+      let atC = count-map-le (joins c p) (on c) (λ b z. end-of c p b z .0) (st .bonds) in
+      let atP = count-map-le (joins c p) (on p) (λ b z. end-of c p b z .1) (st .bonds) in
+      omega arith
 
   pub h-once : loneH st ≡ false → (p : ℕ) → p < length (st .kinds) → isH st p ≡ true → count (map (on p) (st .bonds)) ≡ 1
   h-once lone zero h e =
       let two : 1 < length (st .kinds) = second (st .kinds) (st .bonds) (eqb-false _ _ (simp e at lone)) (t .proper) in
-      let r = t .rooted 1 (omega arith) two in
-      let z : r .0 ≡ 0 = let l : r .0 < 1 = r .1 in omega arith in
-      let j : some (map (joins 0 1) (st .bonds)) ≡ true = rw z at (r .2) in
-      omega (arith, joined-on 0 1 j, t .leaf 0 e)
+      omega (arith, joined-on 0 1 (first-joined t two), t .leaf 0 e)
   h-once lone (suc p) h e = let r = t .rooted (suc p) (omega arith) h in omega (arith, joined-on (r .0) (suc p) (r .2), t .leaf (suc p) e)
 
   -- so the bonds to an H are as many as the H

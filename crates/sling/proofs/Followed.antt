@@ -1,26 +1,25 @@
 -- The reader follows the writer, limits aside: after the items written so far it has the atoms and bonds written so far.
 use mathlib.Core.Path.{_≡_, refl, sym, ap, _∙_, subst}
-use mathlib.Core.Bool.{Bool, true, false, cond}
+use mathlib.Core.Bool.{Bool, true, false}
 use mathlib.Core.List.{List, [], _∷_, _++_, map, map-append, append-nil}
 use mathlib.Core.Logic.{_≢_}
-use Prim.Native.Nat.{ℕ, zero, suc, _+_, _<_, _≤_}
+use Prim.Native.Nat.{ℕ, zero, suc, _<_, _≤_}
 use native.Mathlib.Nat.{not-suc-le-zero}
 use native.Mathlib.Omega.{arith}
-use lib.ListN.{length, getD, length-append, length-map, List·getD-map}
+use lib.ListN.{length, getD, length-map, List·getD-map}
 use lib.Dec.{eqb}
 use borrow.Author.Tests.{ne-eqb, le-ltb, eqb-true}
 use Rattle.lists.specs.Tests.{some}
-use Rattle.molecule.specs.Bonds.{joins}
 use Rattle.molecule.specs.Molecule.{Molecule}
 use Rattle.molecule.proofs.Sound.{Sound}
-use Rattle.sling.specs.Items.{Item, at, atom, reference, ring}
+use Rattle.sling.specs.Items.{at, atom, reference, ring}
 use Rattle.sling.specs.Reading.{State, start, after}
-use Rattle.sling.specs.Walk.{kindAt, codeAt, Written, placeIn, isTraced, first, written}
+use Rattle.sling.specs.Walk.{kindAt, codeAt, Written, placeIn, first, written}
 use Rattle.sling.proofs.Walks.{Marked, Clear, Walk, here, step, walk-snoc}
 use Rattle.sling.proofs.Tidy.{hAt, reader-start, reader-walk}
 use Rattle.sling.proofs.Clear.{reference-clear, atom-clear, h-clear, ring-clear}
 use Rattle.sling.proofs.Places.{On, rank-at, places-differ}
-use Rattle.sling.proofs.Strokes.{said, putAt, closeAt, Rank, Near, nextAt, ringAt, Keeps}
+use Rattle.sling.proofs.Strokes.{said, putAt, Rank, Near, Keeps}
 use Rattle.sling.proofs.Finished.{written-keeps}
 
 -- what soundness says of ranks
@@ -66,11 +65,6 @@ after-atom : (W : Molecule) (w : Written) (us : List ℕ) (r s m : ℕ) → On (
     → after (readAt W w us (placeIn (w .ranks) r)) (atom m (kindAt W s)) ≡ readerOf W (putAt r s (kindAt W s) m w) (us ++ (placeIn (w .ranks) r ∷ []))
 unfolding after
 after-atom W w us r s m h = simp (length-map, map-append, ne-eqb (length (w .ranks)) 0 (λ e. omega arith))
-
-after-ring : (W : Molecule) (w : Written) (us : List ℕ) (r s m : ℕ)
-    → after (readAt W w us (placeIn (w .ranks) r)) (ring m (at (placeIn (w .ranks) s))) ≡ readerOf W (closeAt r s m w) us
-unfolding after
-after-ring W w us r s m = refl
 
 module _ (W : Molecule) (S : Sound W) where
   pub heavy-at : (w : Written) (r : ℕ) → Rank W r → On (w .ranks) r → hAt (map (kindAt W) (w .ranks)) (placeIn (w .ranks) r) ≡ false
@@ -119,14 +113,25 @@ module _ (W : Molecule) (S : Sound W) where
             };
       }
 
+  first-clear : Clear start (atom 1 (kindAt W 1))
+  first-clear =
+      record {
+        two = refl;
+        three = le-ltb 24 (kindAt W 1) (kind-known W S 1 (record { low = omega arith; high = S .some }));
+        five = refl;
+        seven = refl;
+        six = refl;
+        mark = omega arith;
+      }
+
   first-follows : Follows W (first W)
   unfolding after
   first-follows =
       record {
         ups = 0 ∷ [];
-        walk = step {i = atom 1 (kindAt W 1)} (record { two = refl; three = le-ltb 24 (kindAt W 1) (kind-known W S 1 (record { low = omega arith; high = S .some })); five = refl; seven = refl; six = refl; mark = omega arith }) here;
+        walk = step first-clear here;
       }
 
-  -- THE READER, limits aside, reads what is written, and has then the atoms in the order written
+  -- the reader, limits aside, reads what is written, and has then the atoms in the order written
   pub written-follows : Follows W (written W)
   written-follows = written-keeps W (S .some) (Follows W) follows-keeps first-follows

@@ -2,12 +2,12 @@
 use mathlib.Core.Path.{_≡_, refl, sym, ap, _∙_, subst}
 use mathlib.Core.Bool.{Bool, true, false, cond, _&&_, _||_, and-false, and-true, or-false, or-true}
 use mathlib.Core.List.{List, [], _∷_, _++_, map}
-use mathlib.Core.Logic.{_⊎_, ⊎-elim}
-use Prim.Native.Nat.{ℕ, zero, suc, _+_, _<_, _≤_}
+use mathlib.Core.Logic.{⊎-elim}
+use Prim.Native.Nat.{ℕ, zero, suc, _+_, _<_}
 use native.Mathlib.Nat.{not-suc-le-zero}
 use native.Mathlib.Decide.{ℕ-discrete}
 use native.Mathlib.Omega.{arith}
-use lib.ListN.{length, getD, List·getD-append}
+use lib.ListN.{length, List·getD-append}
 use lib.Seq.{getD-append-seam}
 use lib.Dec.{eqb}
 use borrow.Author.Tests.{eq-eqb, ne-eqb}
@@ -18,17 +18,15 @@ use Rattle.molecule.proofs.Sound.{Sound}
 use Rattle.sling.specs.Reading.{hydrogensOn}
 use Rattle.sling.specs.Walk.{hydrogensAt, codeAt, Written, placeIn, putHs, first, written}
 use Rattle.sling.proofs.ListLaws.{All, all-snoc, map-all, count-snoc, count-all-none}
-use Rattle.sling.proofs.Tidy.{bond, hAt}
+use Rattle.sling.proofs.Tidy.{bond, hAt, hBond}
 use Rattle.sling.proofs.Places.{On, place-more, on-more, place-new, on-new, on-cases, rank-at, places-differ}
-use Rattle.sling.proofs.Strokes.{putHs-suc, putAt, Rank, Near, withHs, nextAt, ringAt, Strokes, here, onward, back, putHs-keeps}
-use Rattle.sling.proofs.Finished.{Within, Inside, inside-put, inside-keeps, putHs-old, written-closed}
-use Rattle.sling.proofs.Followed.{readerOf, kind-at}
-use Rattle.sling.proofs.Ranks.{written-ranked, rank-zero}
+use Rattle.sling.proofs.Strokes.{putHs-suc, putAt, Rank, Near, withHs, nextAt, ringAt, Strokes, here, onward, back, putHs-keeps, putHs-old}
+use Rattle.sling.proofs.Ready.{Within, Inside, inside-put, inside-keeps}
+use Rattle.sling.proofs.Finished.{written-closed}
+use Rattle.sling.proofs.Followed.{readerOf}
+use Rattle.sling.proofs.Ranks.{written-ranked, reader-zero}
 
 -- the bonds of a place to an H, which is a rank of 0
-abbrev hBond : List ℕ → Bond → Bool
-hBond l b = hAt l (b .one) || hAt l (b .two)
-
 unfoldable pub hOn : List ℕ → List Bond → ℕ → ℕ
 hOn l bs p = count (map (λ b. on p b && hBond l b) bs)
 
@@ -39,7 +37,8 @@ hOn-snoc l bs b p = count-snoc (λ c. on p c && hBond l c) bs b
 hOn-more : (l xs : List ℕ) (bs : List Bond) (p : ℕ) → All (Within (length l)) bs → hOn (l ++ xs) bs p ≡ hOn l bs p
 unfolding hOn
 hOn-more l xs bs p a =
-    ap count (map-all (λ b. on p b && hBond (l ++ xs) b) (λ b. on p b && hBond l b) (λ b x. rw (List·getD-append l xs 0 (b .one) (x .0), List·getD-append l xs 0 (b .two) (x .1))) bs a)
+    ap count (map-all (λ b. on p b && hBond (l ++ xs) b) (λ b. on p b && hBond l b)
+    (λ b x. rw (List·getD-append l xs 0 (b .one) (x .0), List·getD-append l xs 0 (b .two) (x .1))) bs a)
 
 hOn-none : (l : List ℕ) (bs : List Bond) → All (Within (length l)) bs → hOn l bs (length l) ≡ 0
 unfolding hOn
@@ -82,7 +81,8 @@ putHs-adds (suc h) r x w i hr hx =
     let k = hOn-put (w .ranks) (w .bonds) (placeIn (w .ranks) r) 0 1 (placeIn (w .ranks) x) i hr hx in
     let j = rw (or-true (hAt (w .ranks) (placeIn (w .ranks) r)), and-true same) at k in
     let e : hOf w₁ x ≡ hOf w x + cond same 1 0 = rw (place-more (w .ranks) (0 ∷ []) x hx) j in
-    let c : cond (eqb (placeIn (w₁ .ranks) r) (placeIn (w₁ .ranks) x)) h 0 ≡ cond same h 0 = rw (place-more (w .ranks) (0 ∷ []) r hr, place-more (w .ranks) (0 ∷ []) x hx) in
+    let c : cond (eqb (placeIn (w₁ .ranks) r) (placeIn (w₁ .ranks) x)) h 0 ≡ cond same h 0 =
+    rw (place-more (w .ranks) (0 ∷ []) r hr, place-more (w .ranks) (0 ∷ []) x hx) in
     let f = putHs-adds h r x w₁ (inside-put (w .ranks) (w .bonds) 0 (placeIn (w .ranks) r) 1 i hr) (on-more (w .ranks) (0 ∷ []) r hr) (on-more (w .ranks) (0 ∷ []) x hx) in
     rw (putHs-suc h r w) (f ∙ omega (arith, cond-suc same h))
 
@@ -98,7 +98,10 @@ rank-heavy W l r q h = rw (rank-at l r h) (ne-eqb r 0 (λ e. omega (arith, q .lo
 withHs-hydrated : (W : Molecule) (s : ℕ) (w : Written) → Rank W s → Inside w → On (w .ranks) s → hOf w s ≡ 0
     → ((x : ℕ) → Rank W x → (x ≡ s → ⊥) → On (w .ranks) x → hOf w x ≡ hydrogensAt W x) → Hydrated W (withHs W s w)
 withHs-hydrated W s w q i h none others =
-    record { inside = putHs-keeps W Inside (inside-keeps W) (hydrogensAt W s) s w q h i; hydrogens = λ x p o. pick x p (putHs-old (hydrogensAt W s) s w x (p .low) o) (ℕ-discrete x s) }
+    record {
+      inside = putHs-keeps W Inside (inside-keeps W) (hydrogensAt W s) s w q h i;
+      hydrogens = λ x p o. pick x p (putHs-old (hydrogensAt W s) s w x (p .low) o) (ℕ-discrete x s);
+    }
   where
     pick : (x : ℕ) → Rank W x → On (w .ranks) x → Dec (x ≡ s) → hOf (withHs W s w) x ≡ hydrogensAt W x
     pick x p o (yes e) = subst (λ (y : ℕ). hOf (withHs W s w) y ≡ hydrogensAt W y) (sym e)
@@ -147,8 +150,7 @@ unfolding hOn
 hydrogens-are W S us x q h =
     let t = strokes-hydrated (written-closed W (S .some) .0 .strokes) (first-hydrated W (S .some)) in
     let high = written-ranked W (S .some) .high in
-    let l = written W .ranks in
     ap count (map-all _ (λ b. on (placeIn (written W .ranks) x) b && hBond (written W .ranks) b)
-    (λ b i. rw (kind-at W (written W .ranks) (b .one), kind-at W (written W .ranks) (b .two), rank-zero W S (written W .ranks) high (b .one), rank-zero W S (written W .ranks) high (b .two)))
+    (λ b i. rw (reader-zero W S (written W .ranks) high (b .one), reader-zero W S (written W .ranks) high (b .two)))
     (written W .bonds) (t .inside))
     ∙ t .hydrogens x q h

@@ -49,8 +49,8 @@ said-priced r w p = pick (eqb (w .cursor) (placeIn (w .ranks) r)) refl
     pick true e = simp (e, append-nil) (p .pointed, omega (arith, p .cheap))
     pick false e = simp e (all-snoc Pointed (w .items) _ (p .pointed) tt, omega (arith, p .cheap, costs-snoc (w .items) (reference (at (placeIn (w .ranks) r)))))
 
-item-priced : (r : ℕ) (w v : Written) (i : Item) → Pointed i → cost i ≤ 5 → v .items ≡ w .items ++ said r w ++ (i ∷ []) → length (v .bonds) ≡ length (w .bonds) + 1
-    → Priced w → Priced v
+item-priced : (r : ℕ) (w v : Written) (i : Item) → Pointed i → cost i ≤ 5 → v .items ≡ w .items ++ said r w ++ (i ∷ [])
+    → length (v .bonds) ≡ length (w .bonds) + 1 → Priced w → Priced v
 item-priced r w v i q c e f p =
     let a = said-priced r w p in
     let s = costs-snoc (w .items ++ said r w) i in

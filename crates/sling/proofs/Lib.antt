@@ -1,3 +1,6 @@
+pub mod Open
+mod ReadExamples
+mod WriteExamples
 pub mod ListLaws
 pub mod Numbers
 pub mod Symbols
@@ -9,6 +12,7 @@ pub mod Folds
 pub mod Limits
 pub mod Places
 pub mod Strokes
+pub mod Ready
 pub mod Finished
 pub mod Clear
 pub mod Followed
@@ -20,6 +24,7 @@ pub mod Fits
 pub mod Lengths
 pub mod Names
 pub mod Alike
-pub mod Open
-mod ReadExamples
-mod WriteExamples
+pub mod Marks
+pub mod Rooted
+pub mod Texts
+pub mod Depths

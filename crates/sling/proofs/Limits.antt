@@ -1,21 +1,22 @@
 -- The limits of a reader. Its counts only grow, so that limits kept at the end of a walk are kept on the way; and an item that passes none
 -- keeps all of them, since it touches the counts of no other places than the two that are looked at.
-use mathlib.Core.Path.{_≡_, refl, ap, _∙_, subst}
+use mathlib.Core.Path.{_≡_, refl, ap}
 use mathlib.Core.Bool.{Bool, true, false, cond, not, _&&_, _||_}
 use mathlib.Core.List.{List, [], _∷_, _++_, map}
-use Prim.Native.Nat.{ℕ, _+_, _<_, _≤_}
+use Prim.Native.Nat.{ℕ, _+_, _≤_}
 use native.Mathlib.Omega.{arith}
-use lib.ListN.{length, getD, List·getD-append}
+use lib.ListN.{length, List·getD-append}
 use lib.Dec.{eqb, ltb}
 use borrow.Author.Tests.{le-ltb, ltb-false, eqb-true}
 use Rattle.lists.specs.Tests.{count}
+use Rattle.lists.proofs.Booleans.{or-neither}
 use Rattle.molecule.specs.Bonds.{Bond, on}
 use Rattle.sling.specs.Items.{Item, atom, reference, ring}
 use Rattle.sling.specs.Reading.{State, start, placeOf, goal, after, toH, hydrogensOn, bondsOn}
 use Rattle.sling.specs.Faults.{heavyAtoms, hydrogenAtoms, heavyBonds, overAt, over}
-use Rattle.sling.proofs.ListLaws.{All, map-all, or-l, or-r, count-snoc}
+use Rattle.sling.proofs.ListLaws.{All, map-all, count-snoc}
 use Rattle.sling.proofs.Walks.{Walk, here, step, Kept}
-use Rattle.sling.proofs.Tidy.{bond, hAt, Proper, Reader, reader-after, reader-walk}
+use Rattle.sling.proofs.Tidy.{bond, Proper, Reader, reader-after, hBond}
 
 pub record Room (st : State) : Type 0 where
   pub atoms : heavyAtoms st ≤ 64
@@ -35,10 +36,6 @@ room-over st p q r =
       le-ltb 4 (hydrogensOn st q) (r .hydrogensAt q),
       le-ltb 6 (bondsOn st q) (r .bondsAt q),
     )
-
--- a bond to an H, by the kinds alone
-abbrev hBond : List ℕ → Bond → Bool
-hBond ks b = hAt ks (b .one) || hAt ks (b .two)
 
 hBond-same : (ks : List ℕ) (k : ℕ) (b : Bond) → Proper ks b → hBond (ks ++ (k ∷ [])) b ≡ hBond ks b
 hBond-same ks k b g = rw (List·getD-append ks (k ∷ []) 0 (b .one) (g .one), List·getD-append ks (k ∷ []) 0 (b .two) (g .two))
@@ -84,7 +81,13 @@ after-adds st (atom m k) r =
           (w .0, λ e f. let z = simp (e, f) at (w .1) in omega arith);
     }
 after-adds st (reference t) r =
-    record { atoms = omega arith; hydrogens = omega arith; bonds = omega arith; hydrogensAt = λ p. (omega arith, λ e f. omega arith); bondsAt = λ p. (omega arith, λ e f. omega arith) }
+    record {
+      atoms = omega arith;
+      hydrogens = omega arith;
+      bonds = omega arith;
+      hydrogensAt = λ p. (omega arith, λ e f. omega arith);
+      bondsAt = λ p. (omega arith, λ e f. omega arith);
+    }
 after-adds st (ring m t) r =
     let b : Bond = bond (st .cursor) (placeOf st t) m in
     record {
@@ -110,7 +113,7 @@ room-before st i s r =
       bondsAt = λ p. omega (arith, a .bondsAt p .0, r .bondsAt p);
     }
 
--- WALKS: the limits at the end are kept on the way
+-- the limits at the end of a walk are kept on the way
 room-walk : {st sv : State} {is : List Item} → Walk st is sv → Reader st → Room sv → Room st
 room-walk here s r = r
 room-walk (step {st = st} {i = i} c w) s r = room-before st i s (room-walk w (reader-after st i c s) r)
@@ -123,7 +126,7 @@ room-kept (step {st = st} {i = i} c w) s r =
 
 -- and limits kept on the way are kept at the end
 under : (st : State) (p : ℕ) → overAt st p ≡ false → (hydrogensOn st p ≤ 4) × (bondsOn st p ≤ 6)
-under st p e = (ltb-false 4 _ (or-l _ (ltb 6 (bondsOn st p)) e), ltb-false 6 _ (or-r (ltb 4 (hydrogensOn st p)) _ e))
+under st p e = let n = or-neither (ltb 4 (hydrogensOn st p)) (ltb 6 (bondsOn st p)) e in (ltb-false 4 _ (n .0), ltb-false 6 _ (n .1))
 
 room-after : (st : State) (i : Item) → Reader st → Room st → over (after st i) (st .cursor) (goal st i) ≡ false → Room (after st i)
 room-after st i s r e =
@@ -131,15 +134,19 @@ room-after st i s r e =
     let c = st .cursor in
     let g = goal st i in
     let a = after-adds st i s in
-    let atGoal = under sv g (or-r (ltb 64 (heavyAtoms sv) || ltb 128 (hydrogenAtoms sv) || ltb 80 (heavyBonds sv) || overAt sv c) _ e) in
-    let e₁ = or-l (ltb 64 (heavyAtoms sv) || ltb 128 (hydrogenAtoms sv) || ltb 80 (heavyBonds sv) || overAt sv c) (overAt sv g) e in
-    let atCursor = under sv c (or-r (ltb 64 (heavyAtoms sv) || ltb 128 (hydrogenAtoms sv) || ltb 80 (heavyBonds sv)) _ e₁) in
-    let e₂ = or-l (ltb 64 (heavyAtoms sv) || ltb 128 (hydrogenAtoms sv) || ltb 80 (heavyBonds sv)) (overAt sv c) e₁ in
-    let e₃ = or-l (ltb 64 (heavyAtoms sv) || ltb 128 (hydrogenAtoms sv)) (ltb 80 (heavyBonds sv)) e₂ in
+    let x = ltb 64 (heavyAtoms sv) in
+    let y = ltb 128 (hydrogenAtoms sv) in
+    let z = ltb 80 (heavyBonds sv) in
+    let n₁ = or-neither (x || y || z || overAt sv c) (overAt sv g) e in
+    let n₂ = or-neither (x || y || z) (overAt sv c) (n₁ .0) in
+    let n₃ = or-neither (x || y) z (n₂ .0) in
+    let n₄ = or-neither x y (n₃ .0) in
+    let atGoal = under sv g (n₁ .1) in
+    let atCursor = under sv c (n₂ .1) in
     record {
-      atoms = ltb-false 64 _ (or-l _ (ltb 128 (hydrogenAtoms sv)) e₃);
-      hydrogens = ltb-false 128 _ (or-r (ltb 64 (heavyAtoms sv)) _ e₃);
-      bonds = ltb-false 80 _ (or-r (ltb 64 (heavyAtoms sv) || ltb 128 (hydrogenAtoms sv)) _ e₂);
+      atoms = ltb-false 64 _ (n₄ .0);
+      hydrogens = ltb-false 128 _ (n₄ .1);
+      bonds = ltb-false 80 _ (n₃ .1);
       hydrogensAt = λ p. at-most (hydrogensOn sv) 4 c g p (atCursor .0) (atGoal .0) (λ e f. omega (arith, a .hydrogensAt p .1 e f, r .hydrogensAt p));
       bondsAt = λ p. at-most (bondsOn sv) 6 c g p (atCursor .1) (atGoal .1) (λ e f. omega (arith, a .bondsAt p .1 e f, r .bondsAt p));
     }

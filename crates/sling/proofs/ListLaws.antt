@@ -2,15 +2,16 @@
 use mathlib.Core.Path.{_≡_, refl, sym, ap, _∙_, subst}
 use mathlib.Core.Bool.{Bool, true, false, cond, not, _&&_, _||_, or-false}
 use mathlib.Core.List.{List, [], _∷_, _++_, map, map-append, List·Memᴰ, List·Memᴰ·head, List·Memᴰ·tail, List·Memᴰ·not-nil, List·Memᴰ·cases-cons}
-use mathlib.Core.Logic.{_⊎_, inl, inr, ⊎-elim}
+use mathlib.Core.Logic.{⊎-elim}
 use Prim.Native.Nat.{ℕ, zero, suc, _+_, _<_, _≤_}
 use native.Mathlib.Nat.{zero-add, not-suc-le-zero}
 use native.Mathlib.Omega.{arith}
 use lib.ListN.{length, getD}
 use lib.Dec.{ltb, leb·suc-suc}
-use borrow.Author.Tests.{lt-ltb}
+use borrow.Author.Tests.{lt-ltb, ltb-true, ltb-false}
 use Rattle.lists.specs.Tests.{keep, count, some, find}
 use Rattle.lists.proofs.Steps.{count-append, some-append}
+use Rattle.lists.proofs.Tested.{some-count}
 
 -- a property of each element
 abbrev pub All : {A : Type 0} → (A → Type 0) → List A → Type 0
@@ -42,27 +43,6 @@ all-getD P (x ∷ l) d h p (suc i) = all-getD P l d (h .1) p i
 pub map-all : {A B : Type 0} {P : A → Type 0} (f g : A → B) → ((x : A) → P x → f x ≡ g x) → (l : List A) → All P l → map f l ≡ map g l
 map-all f g e [] h = refl
 map-all f g e (x ∷ l) h = λ i. e x (h .0) i ∷ map-all f g e l (h .1) i
-
--- a conjunction and a disjunction that hold or fail
-pub and-l : (a b : Bool) → (a && b) ≡ true → a ≡ true
-and-l true b e = refl
-and-l false b e = e
-
-pub and-r : (a b : Bool) → (a && b) ≡ true → b ≡ true
-and-r true b e = e
-and-r false b e = cc
-
-pub or-l : (a b : Bool) → (a || b) ≡ false → a ≡ false
-or-l true b e = e
-or-l false b e = refl
-
-pub or-r : (a b : Bool) → (a || b) ≡ false → b ≡ false
-or-r true b e = cc
-or-r false b e = e
-
-pub or-cases : (a b : Bool) → (a || b) ≡ true → (a ≡ true) ⊎ (b ≡ true)
-or-cases true b e = inl refl
-or-cases false b e = inr e
 
 pub one-le : (b : Bool) → cond {A = ℕ} b 1 0 ≤ 1
 one-le true = omega arith
@@ -97,6 +77,23 @@ count-not p (x ∷ l) = pick (p x) (count-not p l)
         → (cond b 1 0 + count (map p l)) + (cond (not b) 1 0 + count (map (λ y. not (p y)) l)) ≡ suc (length l)
     pick true i = omega arith
     pick false i = omega arith
+
+-- one passes exactly if not none is counted
+pub some-counted : (l : List Bool) → some l ≡ true → 0 < count l
+some-counted l e = ltb-true 0 _ (sym (some-count l) ∙ e)
+
+pub none-counted : (l : List Bool) → some l ≡ false → count l ≡ 0
+none-counted l e = let h : count l ≤ 0 = ltb-false 0 _ (sym (some-count l) ∙ e) in omega arith
+
+pub counted-none : (l : List Bool) → count l ≡ 0 → some l ≡ false
+counted-none l e = some-count l ∙ ap (ltb 0) e
+
+pub some-one : (l : List Bool) → count l ≤ 1 → cond {A = ℕ} (some l) 1 0 ≡ count l
+some-one l h = pick (some l) refl
+  where
+    pick : (b : Bool) → some l ≡ b → cond {A = ℕ} b 1 0 ≡ count l
+    pick true e = omega (arith, some-counted l e)
+    pick false e = sym (none-counted l e)
 
 pub count-keep : {A : Type 0} (p q : A → Bool) (l : List A) → count (map q (keep p l)) ≡ count (map (λ x. p x && q x) l)
 unfolding keep
@@ -141,3 +138,13 @@ find-some p (x ∷ l) = pick (p x) refl (find-some p l)
     pick : (b : Bool) → p x ≡ b → ltb (find p l) (length l) ≡ some (map p l) → ltb (find p (x ∷ l)) (length (x ∷ l)) ≡ some (map p (x ∷ l))
     pick true e i = simp e (lt-ltb 0 (suc (length l)) (omega arith))
     pick false e i = simp e (leb·suc-suc (suc (find p l)) (length l) ∙ i)
+
+-- what passes p or q passes r, and nothing passes both
+pub count-map-apart : {A : Type 0} (p q r : A → Bool) → ((x : A) → p x ≡ true → (r x ≡ true) × (q x ≡ false)) → ((x : A) → q x ≡ true → r x ≡ true)
+    → (l : List A) → count (map p l) + count (map q l) ≤ count (map r l)
+count-map-apart p q r f g [] = omega arith
+count-map-apart p q r f g (x ∷ l) = omega (arith, pick (p x) (q x) (r x) (f x) (g x), count-map-apart p q r f g l)
+  where
+    pick : (s t u : Bool) → (s ≡ true → (u ≡ true) × (t ≡ false)) → (t ≡ true → u ≡ true) → cond {A = ℕ} s 1 0 + cond t 1 0 ≤ cond u 1 0
+    pick true t u h k = rw (h refl .0, h refl .1) (omega arith)
+    pick false t u h k = omega (arith, one-mono t u k)

@@ -1,31 +1,33 @@
 -- The name of a sound molecule is read back: it has at most 2,048 bytes, no item of it is refused, and the molecule folded from it is the one
 -- that was named, renumbered by the order of writing.
-use mathlib.Core.Path.{_≡_, refl, sym, ap, _∙_}
-use mathlib.Core.Bool.{Bool, true, false, cond, not, _&&_}
-use mathlib.Core.List.{List, [], _∷_, _++_, map}
-use Prim.Native.Nat.{ℕ, _+_, _*_, _<_, _≤_}
+use mathlib.Core.Path.{_≡_, refl, ap, _∙_}
+use mathlib.Core.Bool.{false}
+use mathlib.Core.List.{[], _∷_, map}
+use Prim.Native.Nat.{ℕ, _<_, _≤_}
 use native.Mathlib.Omega.{arith}
 use lib.ListN.{length, getD, length-append, List·getD-append}
 use lib.Dec.{eqb, ltb}
 use borrow.Author.Tests.{ne-eqb, le-ltb}
+use Rattle.lists.specs.Tests.{count}
+use Rattle.molecule.specs.Bonds.{joins}
 use Rattle.molecule.specs.Molecule.{Molecule}
 use Rattle.molecule.specs.Renumbering.{Renumbered}
 use Rattle.molecule.proofs.Sound.{Sound}
 use Rattle.sling.specs.Scanned.{tokens}
-use Rattle.sling.specs.Reading.{State, start, isH}
+use Rattle.sling.specs.Reading.{State, start}
 use Rattle.sling.specs.Faults.{run, finished}
 use Rattle.sling.specs.Folded.{folded, loneH, readText}
-use Rattle.sling.specs.Walk.{kindAt, written}
+use Rattle.sling.specs.Walk.{kindAt, written, placeIn}
 use Rattle.sling.specs.Printed.{nameBytes}
-use Rattle.sling.proofs.ListLaws.{All, count-not}
+use Rattle.sling.proofs.ListLaws.{All, count-not, some-counted}
 use Rattle.sling.proofs.Tokens.{Plain, tokens-bytes}
 use Rattle.sling.proofs.Walks.{walk-run}
 use Rattle.sling.proofs.Tidy.{Reader, reader-start, reader-walk}
 use Rattle.sling.proofs.Folds.{bonds-count}
 use Rattle.sling.proofs.Limits.{Room, room-kept}
 use Rattle.sling.proofs.Fits.{sound-fits, fits-along, fits-room}
-use Rattle.sling.proofs.Strokes.{Keeps}
-use Rattle.sling.proofs.Finished.{written-keeps}
+use Rattle.sling.proofs.Strokes.{Keeps, Near, keeps-put}
+use Rattle.sling.proofs.Finished.{written-keeps, all-traced}
 use Rattle.sling.proofs.Followed.{readerOf, written-follows, kind-at, kind-low}
 use Rattle.sling.proofs.Order.{turn, written-folded}
 use Rattle.sling.proofs.Lengths.{written-priced, walk-plain, bytes-long, bytes-some}
@@ -33,14 +35,8 @@ use Rattle.sling.proofs.Lengths.{written-priced, walk-plain, bytes-long
 -- rank 1 has place 0
 first-keeps : (W : Molecule) → Keeps W (λ w. (0 < length (w .ranks)) × (getD (w .ranks) 0 0 ≡ 1))
 first-keeps W =
-    record {
-      hydrogen = λ r w q h p. still (w .ranks) 0 p;
-      onward = λ r s w n h k p. still (w .ranks) s p;
-      back = λ r s w n h k u p. p;
-    }
-  where
-    still : (l : List ℕ) (s : ℕ) → (0 < length l) × (getD l 0 0 ≡ 1) → (0 < length (l ++ (s ∷ []))) × (getD (l ++ (s ∷ [])) 0 0 ≡ 1)
-    still l s p = (omega (arith, length-append l (s ∷ [])), List·getD-append l (s ∷ []) 0 0 (p .0) ∙ p .1)
+    keeps-put W (λ w. (0 < length (w .ranks)) × (getD (w .ranks) 0 0 ≡ 1))
+    (λ r s k m w h p. (omega (arith, length-append (w .ranks) (s ∷ [])), List·getD-append (w .ranks) (s ∷ []) 0 0 (p .0) ∙ p .1)) (λ r s w n h k u p. p)
 
 module _ (W : Molecule) (S : Sound W) where
   -- the state that the reader comes to
@@ -93,7 +89,17 @@ module _ (W : Molecule) (S : Sound W) where
       ap (λ ts. run ts start) (tokens-bytes false (written W .items) 0 final-plain)
       ∙ walk-run (written-follows W S .walk) (room-kept (written-follows W S .walk) reader-start final-room) 0 false
 
-  -- THE NAME IS READ
+  -- every bond is traced once
+  pub bond-once : (r s : ℕ) → Near W r s → count (map (joins (placeIn (written W .ranks) r) (placeIn (written W .ranks) s)) (written W .bonds)) ≡ 1
+  unfolding final
+  bond-once r s n =
+      omega (
+        arith,
+        some-counted _ (all-traced W (S .some) (S .linked) r s n),
+        final-reader .tidy .once (placeIn (written W .ranks) r) (placeIn (written W .ranks) s),
+      )
+
+  -- the name is accepted by all refusals and limits of the reader
   pub name-read : readText (nameBytes W) ≡ finished final
   unfolding readText
   name-read =

@@ -7,7 +7,7 @@ use native.Mathlib.Omega.{arith}
 use lib.ListN.{length}
 use lib.Dec.{ltb}
 use borrow.Author.Tests.{le-leb, ne-eqb, ltb-true, ltb-false}
-use Rattle.sling.specs.Scanned.{Number, number, isDigit, digits, valued, numberAt}
+use Rattle.sling.specs.Scanned.{number, isDigit, digits, valued, numberAt}
 use Rattle.sling.specs.Printed.{decimal}
 
 -- a digit stands first

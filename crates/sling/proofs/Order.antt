@@ -1,18 +1,18 @@
 -- The molecule folded from what is written is the one that was written, its atoms renumbered by the order of writing.
-use mathlib.Core.Path.{_≡_, refl, sym, ap, ap₂, _∙_, subst}
-use mathlib.Core.Bool.{Bool, true, false, cond, not, _&&_}
-use mathlib.Core.List.{List, [], _∷_, map, map-id, List·Memᴰ}
-use Prim.Native.Nat.{ℕ, zero, suc, _+_, _*_, _<_, _≤_}
+use mathlib.Core.Path.{_≡_, sym, ap, _∙_}
+use mathlib.Core.Bool.{true, cond, not, _&&_}
+use mathlib.Core.List.{List, map, map-id}
+use Prim.Native.Nat.{ℕ, zero, suc, _<_, _≤_}
 use native.Mathlib.Omega.{arith}
-use lib.ListN.{length, getD, length-map, List·getD-map, List·getD-eq-default}
-use lib.Dec.{eqb, ltb, eqb·zero-suc, eqb·suc-suc}
-use borrow.Author.Tests.{eq-eqb, ne-eqb, ltb-true, ltb-false, eqb-true}
+use lib.ListN.{length, getD, length-map, List·getD-map}
+use lib.Dec.{eqb, eqb·zero-suc, eqb·suc-suc}
+use borrow.Author.Tests.{ne-eqb, eqb-true}
 use Rattle.lists.specs.Upto.{upto, each, sum}
 use Rattle.lists.specs.Tests.{keep, count, some}
 use Rattle.lists.specs.Shuffle.{Shuffle}
+use Rattle.sling.proofs.Tidy.{heavy-within}
 use Rattle.lists.proofs.Sums.{sum-eq, sum-const, count-sum}
 use Rattle.lists.proofs.Counts.{count-none, count-eq, length-keep}
-use Rattle.lists.proofs.Tested.{some-pass}
 use Rattle.lists.proofs.Kept.{keep-map, keep-eq, mem-keep}
 use Rattle.molecule.specs.Molecule.{Molecule}
 use Rattle.molecule.specs.Renumbering.{Renumbered}
@@ -21,12 +21,12 @@ use Rattle.sling.specs.Reading.{isH}
 use Rattle.sling.specs.Folded.{heavyPlaces, folded}
 use Rattle.sling.specs.Walk.{kindAt, placeIn, written}
 use Rattle.sling.proofs.ListLaws.{All, map-all, find-passes}
-use Rattle.sling.proofs.Counting.{sum-swap, count-each-only, each-getD, getD-mem}
-use Rattle.sling.proofs.Places.{On, some-on, rank-at}
+use Rattle.sling.proofs.Counting.{sum-swap, count-each-only, each-getD}
+use Rattle.sling.proofs.Places.{On, rank-at, places-apart, mem-on, on-mem}
 use Rattle.sling.proofs.Strokes.{Rank}
 use Rattle.sling.proofs.Finished.{all-on}
 use Rattle.sling.proofs.Followed.{readerOf, kind-at}
-use Rattle.sling.proofs.Ranks.{Ranked, written-ranked, count-has, place-at, rank-zero}
+use Rattle.sling.proofs.Ranks.{written-ranked, count-has, place-at, reader-zero}
 use Rattle.sling.proofs.Codes.{codes-are}
 use Rattle.sling.proofs.Hydrogens.{hydrogens-are}
 
@@ -57,6 +57,10 @@ order-long n l h once =
     ∙ sum-const n 1
     ∙ omega arith
 
+order-on : (l : List ℕ) (r : ℕ) → 0 < r → On l r → On (order l) r
+unfolding order
+order-on l r p h = mem-on (order l) r (mem-keep (λ x. not (eqb x 0)) l r (on-mem l r h) (ap not (ne-eqb r 0 (λ e. omega arith))))
+
 module _ (W : Molecule) (S : Sound W) where
   rank-of : (a : ℕ) → a < W .size → Rank W (suc a)
   rank-of a h = record { low = omega arith; high = h }
@@ -64,7 +68,7 @@ module _ (W : Molecule) (S : Sound W) where
   atom-on : (a : ℕ) → a < W .size → On (written W .ranks) (suc a)
   atom-on a h = all-on W (S .some) (S .linked) (suc a) (rank-of a h)
 
-  -- EVERY ATOM IS WRITTEN ONCE
+  -- every atom is written once
   pub written-once : (a : ℕ) → a < W .size → count (map (λ x. eqb x (suc a)) (written W .ranks)) ≡ 1
   written-once a h =
       let k = count-has (written W .ranks) (placeIn (written W .ranks) (suc a)) (atom-on a h) in
@@ -75,55 +79,44 @@ module _ (W : Molecule) (S : Sound W) where
   turns = order-long (W .size) (written W .ranks) (written-ranked W (S .some) .high) written-once
 
   turn-on : (a : ℕ) → a < W .size → On (order (written W .ranks)) (suc a)
-  unfolding order
-  turn-on a h =
-      let at = rank-at (written W .ranks) (suc a) (atom-on a h) in
-      let m : List·Memᴰ (suc a) (written W .ranks) = subst (λ (x : ℕ). List·Memᴰ x (written W .ranks)) at (getD-mem (written W .ranks) (placeIn (written W .ranks) (suc a)) 0 (atom-on a h)) in
-      some-on (order (written W .ranks)) (suc a)
-      (some-pass (λ x. eqb x (suc a)) (order (written W .ranks)) (suc a) (mem-keep (λ x. not (eqb x 0)) (written W .ranks) (suc a) m (ap not (ne-eqb (suc a) 0 (λ e. omega arith))))
-      (eq-eqb (suc a) (suc a) refl))
+  turn-on a h = order-on (written W .ranks) (suc a) (omega arith) (atom-on a h)
 
   turn-shuffle : Shuffle (turn W) (W .size)
   unfolding turn
   turn-shuffle =
       record {
         within = λ a h. omega (arith, turns, turn-on a h);
-        apart = λ a b h k e.
-            let z : suc a ≡ suc b = sym (rank-at (order (written W .ranks)) (suc a) (turn-on a h)) ∙ ap (λ (p : ℕ). getD (order (written W .ranks)) p 0) e ∙ rank-at (order (written W .ranks)) (suc b) (turn-on b k) in
-            omega arith;
+        apart = λ a b h k e. let z = places-apart (order (written W .ranks)) (suc a) (suc b) (turn-on a h) (turn-on b k) e in omega arith;
       }
 
 -- the places of the heavy atoms, and the ranks at them
 module _ (W : Molecule) (S : Sound W) (us : List ℕ) where
   heavy-is : (p : ℕ) → not (isH (readerOf W (written W) us) p) ≡ not (eqb (getD (written W .ranks) p 0) 0)
-  heavy-is p = ap not (ap (λ (k : ℕ). eqb k 0) (kind-at W (written W .ranks) p) ∙ rank-zero W S (written W .ranks) (written-ranked W (S .some) .high) p)
+  heavy-is p = ap not (reader-zero W S (written W .ranks) (written-ranked W (S .some) .high) p)
 
   order-places : order (written W .ranks) ≡ map (λ p. getD (written W .ranks) p 0) (heavyPlaces (readerOf W (written W) us))
   unfolding order heavyPlaces each
   order-places =
-      ap (keep (λ x. not (eqb x 0))) (sym (map-id (written W .ranks)) ∙ sym (each-getD (λ x. x) 0 (written W .ranks)))
-      ∙ keep-map (λ x. not (eqb x 0)) (λ p. getD (written W .ranks) p 0) (upto (length (written W .ranks)))
-      ∙ ap (map (λ p. getD (written W .ranks) p 0))
-      (keep-eq (upto (length (written W .ranks))) (λ p. not (eqb (getD (written W .ranks) p 0) 0)) (λ p. not (isH (readerOf W (written W) us) p)) (λ p m. sym (heavy-is p))
-      ∙ ap (λ (n : ℕ). keep (λ p. not (isH (readerOf W (written W) us) p)) (upto n)) (sym (length-map (written W .ranks) (kindAt W))))
+      let l = written W .ranks in
+      let st = readerOf W (written W) us in
+      ap (keep (λ x. not (eqb x 0))) (sym (map-id l) ∙ sym (each-getD (λ x. x) 0 l))
+      ∙ keep-map (λ x. not (eqb x 0)) (λ p. getD l p 0) (upto (length l))
+      ∙ ap (map (λ p. getD l p 0)) (
+      keep-eq (upto (length l)) (λ p. not (eqb (getD l p 0) 0)) (λ p. not (isH st p)) (λ p m. sym (heavy-is p))
+      ∙ ap (λ (n : ℕ). keep (λ p. not (isH st p)) (upto n)) (sym (length-map l (kindAt W))))
 
   -- the place of an atom, by its turn
   turn-place : (a : ℕ) → a < W .size → getD (heavyPlaces (readerOf W (written W) us)) (turn W a) 0 ≡ placeIn (written W .ranks) (suc a)
   unfolding turn
   turn-place a h =
+      let l = written W .ranks in
       let ps = heavyPlaces (readerOf W (written W) us) in
-      let f : ℕ → ℕ = λ p. getD (written W .ranks) p 0 in
-      let i = placeIn (order (written W .ranks)) (suc a) in
-      let e : getD (order (written W .ranks)) i (f 0) ≡ suc a = eqb-true _ (suc a) (find-passes (λ x. eqb x (suc a)) (f 0) (order (written W .ranks)) (turn-on W S a h)) in
-      let g : f (getD ps i 0) ≡ suc a = sym (List·getD-map f ps i 0) ∙ ap (λ (l : List ℕ). getD l i (f 0)) (sym order-places) ∙ e in
-      sym (ap (placeIn (written W .ranks)) (sym g) ∙ place-at (written W .ranks) (getD ps i 0) (written-ranked W (S .some) .once) (within (getD ps i 0) a g) (omega arith))
-    where
-      within : (p a : ℕ) → getD (written W .ranks) p 0 ≡ suc a → p < length (written W .ranks)
-      within p a e = pick (ltb p (length (written W .ranks))) refl
-        where
-          pick : (b : Bool) → ltb p (length (written W .ranks)) ≡ b → p < length (written W .ranks)
-          pick true q = ltb-true _ _ q
-          pick false q = absurd (let z = List·getD-eq-default (written W .ranks) 0 (ltb-false p (length (written W .ranks)) q) in omega arith)
+      let i = placeIn (order l) (suc a) in
+      let f : ℕ → ℕ = λ p. getD l p 0 in
+      let e : getD (order l) i (f 0) ≡ suc a = eqb-true _ (suc a) (find-passes (λ x. eqb x (suc a)) (f 0) (order l) (turn-on W S a h)) in
+      let g : f (getD ps i 0) ≡ suc a = sym (List·getD-map f ps i 0) ∙ ap (λ (k : List ℕ). getD k i (f 0)) (sym order-places) ∙ e in
+      let there : getD ps i 0 < length l = heavy-within l (getD ps i 0) (ne-eqb (f (getD ps i 0)) 0 (λ z. omega arith)) in
+      sym (ap (placeIn l) (sym g) ∙ place-at l (getD ps i 0) (written-ranked W (S .some) .once) there (omega arith))
 
   pub written-folded : Renumbered (turn W) W (folded (readerOf W (written W) us))
   unfolding folded

@@ -1,23 +1,23 @@
 -- The ranks written are those of the molecule, each once, and zeros that stand for H.
 use mathlib.Core.Path.{_≡_, refl, sym, ap, _∙_, subst}
-use mathlib.Core.Bool.{Bool, true, false, cond, not}
+use mathlib.Core.Bool.{Bool, true, false}
 use mathlib.Core.List.{List, [], _∷_, _++_, map}
-use Prim.Native.Nat.{ℕ, zero, suc, _+_, _<_, _≤_}
-use native.Mathlib.Nat.{not-suc-le-zero, zero-add}
+use Prim.Native.Nat.{ℕ, zero, suc, _<_, _≤_}
+use native.Mathlib.Nat.{not-suc-le-zero}
 use native.Mathlib.Omega.{arith}
 use lib.ListN.{length, getD}
-use lib.Dec.{eqb, ltb}
-use borrow.Author.Tests.{eq-eqb, ne-eqb, le-ltb, ltb-false, eqb-true}
-use Rattle.lists.specs.Tests.{count, some}
-use Rattle.lists.proofs.Tested.{some-count}
+use lib.Dec.{eqb}
+use borrow.Author.Tests.{eq-eqb, ne-eqb, le-ltb, eqb-true}
+use Rattle.lists.specs.Tests.{count}
+use Rattle.sling.proofs.Tidy.{hAt}
 use Rattle.molecule.specs.Molecule.{Molecule}
 use Rattle.molecule.proofs.Sound.{Sound}
-use Rattle.sling.specs.Walk.{kindAt, Written, placeIn, first, written}
-use Rattle.sling.proofs.ListLaws.{All, all-snoc, all-getD, one-le, count-snoc, find-some}
+use Rattle.sling.specs.Walk.{kindAt, placeIn, written}
+use Rattle.sling.proofs.ListLaws.{All, all-snoc, all-getD, one-le, count-snoc, find-some, none-counted}
 use Rattle.sling.proofs.Places.{On}
-use Rattle.sling.proofs.Strokes.{Rank, Keeps}
+use Rattle.sling.proofs.Strokes.{Keeps}
 use Rattle.sling.proofs.Finished.{written-keeps}
-use Rattle.sling.proofs.Followed.{kind-low}
+use Rattle.sling.proofs.Followed.{kind-low, kind-at}
 
 pub record Ranked (W : Molecule) (l : List ℕ) : Type 0 where
   pub once : (r : ℕ) → 0 < r → count (map (λ x. eqb x r) l) ≤ 1
@@ -26,8 +26,7 @@ pub record Ranked (W : Molecule) (l : List ℕ) : Type 0 where
 count-absent : (l : List ℕ) (r : ℕ) → (On l r → ⊥) → count (map (λ x. eqb x r) l) ≡ 0
 count-absent l r n =
     let far : length l ≤ placeIn l r = omega arith in
-    let k : count (map (λ x. eqb x r) l) ≤ 0 = ltb-false 0 _ (sym (some-count (map (λ x. eqb x r) l)) ∙ sym (find-some (λ x. eqb x r) l) ∙ le-ltb _ _ far) in
-    omega arith
+    none-counted (map (λ x. eqb x r) l) (sym (find-some (λ x. eqb x r) l) ∙ le-ltb _ _ far)
 
 ranked-snoc : (W : Molecule) (l : List ℕ) (s : ℕ) → s ≤ W .size → (0 < s → On l s → ⊥) → Ranked W l → Ranked W (l ++ (s ∷ []))
 ranked-snoc W l s h n t = record { once = λ r p. pick r p (eqb s r) refl; high = all-snoc (λ x. x ≤ W .size) l s (t .high) h }
@@ -68,10 +67,10 @@ place-at (y ∷ l) (suc p) o h z = pick (eqb y (getD l p 0)) refl (place-at l p 
     pick false e f = simp e (ap suc f)
 
 -- an H is a zero of the ranks
-pub kind-zero : (W : Molecule) → Sound W → (x : ℕ) → x ≤ W .size → eqb (kindAt W x) 0 ≡ eqb x 0
+kind-zero : (W : Molecule) → Sound W → (x : ℕ) → x ≤ W .size → eqb (kindAt W x) 0 ≡ eqb x 0
 kind-zero W S zero h = refl
 kind-zero W S (suc a) h =
     ne-eqb (kindAt W (suc a)) 0 (λ e. omega (arith, kind-low W S (suc a) (record { low = omega arith; high = h }))) ∙ sym (ne-eqb (suc a) 0 (λ e. omega arith))
 
-pub rank-zero : (W : Molecule) → Sound W → (l : List ℕ) → All (λ x. x ≤ W .size) l → (p : ℕ) → eqb (kindAt W (getD l p 0)) 0 ≡ eqb (getD l p 0) 0
-rank-zero W S l h p = kind-zero W S (getD l p 0) (all-getD (λ x. x ≤ W .size) l 0 h (omega arith) p)
+pub reader-zero : (W : Molecule) → Sound W → (l : List ℕ) → All (λ x. x ≤ W .size) l → (p : ℕ) → hAt (map (kindAt W) l) p ≡ hAt l p
+reader-zero W S l h p = ap (λ (k : ℕ). eqb k 0) (kind-at W l p) ∙ kind-zero W S (getD l p 0) (all-getD (λ x. x ≤ W .size) l 0 h (omega arith) p)

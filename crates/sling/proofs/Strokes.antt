@@ -1,18 +1,21 @@
 -- What a writer does, stroke by stroke: it puts an H on an atom, puts a neighbour with its hydrogens, or closes a ring. What each stroke keeps
 -- is kept from the first atom to the end.
-use mathlib.Core.Path.{_≡_, refl, sym, ap, _∙_}
+use mathlib.Core.Path.{_≡_, refl, ap}
 use mathlib.Core.Bool.{Bool, true, false, cond}
-use mathlib.Core.List.{List, [], _∷_, _++_, append-nil}
-use mathlib.Core.Logic.{_≢_}
+use mathlib.Core.List.{List, [], _∷_, _++_, append-nil, Memᴰ·of-map}
+use mathlib.Core.Logic.{_≢_, ⊎-elim}
 use Prim.Native.Nat.{ℕ, zero, suc, _<_, _≤_}
+use native.Mathlib.Omega.{arith}
 use lib.ListN.{length}
 use lib.Dec.{eqb}
 use borrow.Author.Tests.{eqb-true}
-use Rattle.molecule.specs.Molecule.{Molecule}
+use Rattle.molecule.specs.Molecule.{Molecule, neighbours}
+use Rattle.molecule.proofs.Neighbours.{of-neighbours}
 use Rattle.sling.specs.Items.{Item, at, atom, reference, ring}
-use Rattle.sling.specs.Walk.{kindAt, hydrogensAt, codeAt, Written, placeIn, isTraced, serve, put, close, putHs}
+use Rattle.sling.specs.Walk.{kindAt, hydrogensAt, codeAt, Written, placeIn, isTraced, serve, put, close, putHs, neighboursAt, isWritten, trace}
 use Rattle.sling.proofs.Tidy.{bond}
-use Rattle.sling.proofs.Places.{On, on-more, on-new}
+use Rattle.sling.proofs.Places.{On, on-more, on-new, on-cases}
+use Rattle.sling.proofs.ListLaws.{All, mem-all}
 
 -- what is written to go to the atom of rank r
 abbrev pub said : ℕ → Written → List Item
@@ -77,6 +80,37 @@ nextAt W r s w = putAt r s (kindAt W s) (codeAt W r s) w
 abbrev pub ringAt : Molecule → ℕ → ℕ → Written → Written
 ringAt W r s w = closeAt r s (codeAt W r s) w
 
+-- the neighbours that are gone through
+pub near-all : (W : Molecule) (r : ℕ) → Rank W r → All (Near W r) (neighboursAt W r)
+near-all W zero q = tt
+near-all W (suc a) q =
+    mem-all (neighboursAt W (suc a)) (λ s m.
+    let w = Memᴰ·of-map suc (neighbours W a) m in
+    let b = of-neighbours W a (w .0) (w .1) in
+    rw (← (w .2)) (record { one = q; two = record { low = omega arith; high = b .0 }; code = b .1 }))
+
+-- what coming to a neighbour leads to
+module _ (f : ℕ → Written → Written) (W : Molecule) (r s : ℕ) (w : Written) where
+  pub trace-done : isTraced w r s ≡ true → trace f W r s w ≡ w
+  unfolding trace
+  trace-done e = simp e
+
+  pub trace-back : isTraced w r s ≡ false → isWritten w s ≡ true → trace f W r s w ≡ ringAt W r s w
+  unfolding trace
+  trace-back e k = simp (e, k) (close-served r s (codeAt W r s) w)
+
+  pub trace-onward : isTraced w r s ≡ false → isWritten w s ≡ false → trace f W r s w ≡ f s (nextAt W r s w)
+  unfolding trace
+  trace-onward e k = simp (e, k) (ap (f s) (put-served r s (kindAt W s) (codeAt W r s) w))
+
+-- hydrogens are no ranks
+pub putHs-old : (h r : ℕ) (w : Written) (x : ℕ) → 0 < x → On (putHs h r w .ranks) x → On (w .ranks) x
+unfolding putHs
+putHs-old zero r w x p o = o
+putHs-old (suc h) r w x p o =
+    ⊎-elim (λ k. k) (λ (e : x ≡ 0). absurd (omega arith)) (on-cases (w .ranks) 0 x (putHs-old h r (putAt r 0 0 1 w) x p (rw (putHs-suc h r w) at o)))
+
+-- so from one state of the writer to another
 pub data Strokes (W : Molecule) : Written → Written → Type 0 where
   here : {w : Written} → Strokes W w w
   onward : {w v : Written} (r s : ℕ) → Near W r s → On (w .ranks) r → (On (w .ranks) s → ⊥) → Strokes W (withHs W s (nextAt W r s w)) v → Strokes W w v
@@ -92,6 +126,16 @@ pub record Keeps (W : Molecule) (P : Written → Type 0) : Type 0 where
   pub hydrogen : (r : ℕ) (w : Written) → Rank W r → On (w .ranks) r → P w → P (putAt r 0 0 1 w)
   pub onward : (r s : ℕ) (w : Written) → Near W r s → On (w .ranks) r → (On (w .ranks) s → ⊥) → P w → P (nextAt W r s w)
   pub back : (r s : ℕ) (w : Written) → Near W r s → On (w .ranks) r → On (w .ranks) s → isTraced w r s ≡ false → P w → P (ringAt W r s w)
+
+-- where it does not matter which atom is put
+pub keeps-put : (W : Molecule) (P : Written → Type 0) → ((r s k m : ℕ) (w : Written) → On (w .ranks) r → P w → P (putAt r s k m w))
+    → ((r s : ℕ) (w : Written) → Near W r s → On (w .ranks) r → On (w .ranks) s → isTraced w r s ≡ false → P w → P (ringAt W r s w)) → Keeps W P
+keeps-put W P putOne closeOne =
+    record {
+      hydrogen = λ r w q h p. putOne r 0 0 1 w h p;
+      onward = λ r s w n h k p. putOne r s (kindAt W s) (codeAt W r s) w h p;
+      back = closeOne;
+    }
 
 module _ (W : Molecule) (P : Written → Type 0) (k : Keeps W P) where
   pub putHs-keeps : (h r : ℕ) (w : Written) → Rank W r → On (w .ranks) r → P w → P (putHs h r w)

@@ -1,6 +1,6 @@
 -- The symbol of a kind, as it is printed, is scanned as that kind: by the table of kinds, looked through once.
-use mathlib.Core.Path.{_≡_, refl, ap, _∙_}
-use mathlib.Core.Bool.{Bool, true, false, _&&_}
+use mathlib.Core.Path.{_≡_, refl, sym, ap, _∙_}
+use mathlib.Core.Bool.{Bool, true, false, _&&_, true≢false}
 use mathlib.Core.List.{List, [], _∷_, _++_}
 use Prim.Native.Nat.{ℕ, suc, _+_, _<_, _≤_}
 use native.Mathlib.Omega.{arith}
@@ -10,12 +10,12 @@ use borrow.Author.Tests.{le-leb, lt-leb, ne-eqb, eqb-true, leb-true}
 use Rattle.lists.specs.Order.{lex}
 use Rattle.lists.specs.Tests.{every}
 use Rattle.lists.specs.Upto.{each, from}
+use Rattle.lists.proofs.Booleans.{and-both}
 use Rattle.lists.proofs.Tested.{every-true-below}
 use Rattle.molecule.specs.Kinds.{kinds, symbolOf, kindOfSymbol}
 use Rattle.sling.specs.Items.{atom}
 use Rattle.sling.specs.Scanned.{got, isCapital, isSmall, smallFirst, bracketed, body, scan}
 use Rattle.sling.specs.Printed.{symbolBytes}
-use Rattle.sling.proofs.ListLaws.{and-l, and-r}
 use Rattle.sling.proofs.Numbers.{digitFirst}
 
 -- a capital, or a capital and a small letter, that stand for k
@@ -37,18 +37,19 @@ symbol-is : (k : ℕ) → k ≤ 24 → Symbol k
 symbol-is k h = pick (symbolOf k) refl (every-true-below 25 (λ j. symbolFits j (symbolOf j)) symbols-fit k (omega arith))
   where
     pick : (l : List ℕ) → symbolOf k ≡ l → symbolFits k l ≡ true → Symbol k
-    pick [] e f = absurd (let z : _≡_ {A = ℕ} 0 1 = cc in omega arith)
-    pick (c ∷ []) e f = one c e (and-l (isCapital c) _ f) (eqb-true _ k (and-r (isCapital c) _ f))
+    pick [] e f = absurd (true≢false (sym f))
+    pick (c ∷ []) e f = let g = and-both (isCapital c) _ f in one c e (g .0) (eqb-true _ k (g .1))
     pick (c ∷ s ∷ []) e f =
-        let g = and-r (isCapital c) _ f in
-        two c s e (and-l (isCapital c) _ f) (and-l (isSmall s) _ g) (eqb-true _ k (and-r (isSmall s) _ g))
-    pick (c ∷ s ∷ d ∷ l) e f = absurd (let z : _≡_ {A = ℕ} 0 1 = cc in omega arith)
+        let g = and-both (isCapital c) _ f in
+        let h = and-both (isSmall s) _ (g .1) in
+        two c s e (g .0) (h .0) (eqb-true _ k (h .1))
+    pick (c ∷ s ∷ d ∷ l) e f = absurd (true≢false (sym f))
 
 pub capital-low : (c : ℕ) → isCapital c ≡ true → 65 ≤ c
-capital-low c e = leb-true 65 c (and-l (leb 65 c) (leb c 90) e)
+capital-low c e = leb-true 65 c (and-both (leb 65 c) (leb c 90) e .0)
 
 capital-high : (c : ℕ) → isCapital c ≡ true → c ≤ 90
-capital-high c e = leb-true c 90 (and-r (leb 65 c) (leb c 90) e)
+capital-high c e = leb-true c 90 (and-both (leb 65 c) (leb c 90) e .1)
 
 body-capital : (c n m : ℕ) (l : List ℕ) → isCapital c ≡ true → smallFirst l ≡ false → body (c ∷ l) n m ≡ got (atom m (kindOfSymbol (c ∷ []))) (suc n)
 unfolding body

@@ -1,21 +1,21 @@
 -- What holds of the atoms and bonds that a reader has, after any items in which nothing is wrong: every bond is a proper one, no pair has
 -- two, an H has at most one, and each atom but the first has a bond to an older one.
-use mathlib.Core.Path.{_≡_, refl, sym, ap, _∙_, subst}
-use mathlib.Core.Bool.{Bool, true, false, cond, _&&_, _||_, or-comm, or-true}
+use mathlib.Core.Path.{_≡_, refl, ap, _∙_, subst}
+use mathlib.Core.Bool.{Bool, true, false, _&&_, _||_, or-comm, or-true, true≢false}
 use mathlib.Core.List.{List, [], _∷_, _++_, map}
 use mathlib.Core.Logic.{_⊎_, inl, inr, ⊎-elim}
-use Prim.Native.Nat.{ℕ, zero, suc, _+_, _<_, _≤_}
+use Prim.Native.Nat.{ℕ, _<_, _≤_}
 use native.Mathlib.Nat.{not-suc-le-zero}
 use native.Mathlib.Omega.{arith}
-use lib.ListN.{length, getD, length-append, List·getD-append}
-use lib.Dec.{eqb, leb, ltb}
-use borrow.Author.Tests.{eq-eqb, ne-eqb, le-ltb, ltb-true, ltb-false, leb-false, eqb-true, eqb-false}
+use lib.ListN.{length, getD, length-append, List·getD-append, List·getD-eq-default}
+use lib.Dec.{eqb, ltb}
+use borrow.Author.Tests.{eq-eqb, ne-eqb, ltb-true, ltb-false, leb-false, eqb-true, eqb-false}
 use Rattle.lists.specs.Tests.{count, some}
-use Rattle.lists.proofs.Tested.{some-count}
+use Rattle.lists.proofs.Booleans.{and-both, or-either, or-neither}
 use Rattle.molecule.specs.Bonds.{Bond, on, joins}
 use Rattle.sling.specs.Items.{Item, atom, reference, ring}
 use Rattle.sling.specs.Reading.{State, start, placeOf, drawn, after}
-use Rattle.sling.proofs.ListLaws.{All, all-map, all-snoc, and-l, and-r, or-l, or-r, or-cases, count-snoc, some-snoc, count-all-none}
+use Rattle.sling.proofs.ListLaws.{All, all-map, all-snoc, count-snoc, some-snoc, count-all-none, none-counted, counted-none}
 use Rattle.sling.proofs.Walks.{Marked, Clear, Walk, here, step}
 
 abbrev pub bond : ℕ → ℕ → ℕ → Bond
@@ -24,6 +24,17 @@ bond p q m = record { one = p; two = q; code = m }
 -- an H stands at a place, or nothing
 abbrev pub hAt : List ℕ → ℕ → Bool
 hAt ks p = eqb (getD ks p 0) 0
+
+pub heavy-within : (ks : List ℕ) (p : ℕ) → hAt ks p ≡ false → p < length ks
+heavy-within ks p e = pick (ltb p (length ks)) refl
+  where
+    pick : (b : Bool) → ltb p (length ks) ≡ b → p < length ks
+    pick true q = ltb-true _ _ q
+    pick false q = absurd (true≢false (rw (List·getD-eq-default ks 0 (ltb-false p (length ks) q)) at e))
+
+-- a bond joins two places
+abbrev pub Joined : List Bond → ℕ → ℕ → Type 0
+Joined bs p q = some (map (joins p q) bs) ≡ true
 
 pub record Proper (ks : List ℕ) (b : Bond) : Type 0 where
   pub one : b .one < length ks
@@ -37,33 +48,47 @@ pub record Tidy (ks : List ℕ) (bs : List Bond) : Type 0 where
   pub proper : All (Proper ks) bs
   pub once : (p q : ℕ) → count (map (joins p q) bs) ≤ 1
   pub leaf : (p : ℕ) → hAt ks p ≡ true → count (map (on p) bs) ≤ 1
-  pub rooted : (p : ℕ) → 0 < p → p < length ks → (c : ℕ) × (c < p) × (some (map (joins c p) bs) ≡ true)
+  pub rooted : (p : ℕ) → 0 < p → p < length ks → (c : ℕ) × (c < p) × Joined bs c p
+
+-- the second atom was put on the first
+pub first-joined : {ks : List ℕ} {bs : List Bond} → Tidy ks bs → 1 < length ks → Joined bs 0 1
+first-joined {ks} {bs} t h =
+    let r = t .rooted 1 (omega arith) h in
+    let z : r .0 ≡ 0 = let k : r .0 < 1 = r .1 in omega arith in
+    subst (λ (c : ℕ). Joined bs c 1) z (r .2)
+
+-- a bond to an H
+abbrev pub hBond : List ℕ → Bond → Bool
+hBond ks b = hAt ks (b .one) || hAt ks (b .two)
 
 -- the order of the ends does not matter
 pub joins-swap : (p q : ℕ) (bs : List Bond) → map (joins p q) bs ≡ map (joins q p) bs
 joins-swap p q [] = refl
 joins-swap p q (b ∷ bs) = λ i. or-comm (eqb (b .one) p && eqb (b .two) q) (eqb (b .one) q && eqb (b .two) p) i ∷ joins-swap p q bs i
 
-pub joins-self : (p q m : ℕ) → joins p q (bond p q m) ≡ true
+joins-self : (p q m : ℕ) → joins p q (bond p q m) ≡ true
 joins-self p q m = simp (eq-eqb p p refl, eq-eqb q q refl)
 
+pub joined-last : (p q m : ℕ) (bs : List Bond) → Joined (bs ++ (bond p q m ∷ [])) p q
+joined-last p q m bs = some-snoc (joins p q) bs (bond p q m) ∙ rw (joins-self p q m, or-true)
+
 -- a bond that joins p and q has them as its ends, one way or the other
-pub joins-ends : (p q : ℕ) (b : Bond) → joins p q b ≡ true → ((b .one ≡ p) × (b .two ≡ q)) ⊎ ((b .one ≡ q) × (b .two ≡ p))
+abbrev pub Ends : ℕ → ℕ → Bond → Type 0
+Ends p q b = ((b .one ≡ p) × (b .two ≡ q)) ⊎ ((b .one ≡ q) × (b .two ≡ p))
+
+pub joins-ends : (p q : ℕ) (b : Bond) → joins p q b ≡ true → Ends p q b
 joins-ends p q b e =
     ⊎-elim
-    (λ z. inl (eqb-true _ _ (and-l (eqb (b .one) p) _ z), eqb-true _ _ (and-r (eqb (b .one) p) _ z)))
-    (λ z. inr (eqb-true _ _ (and-l (eqb (b .one) q) _ z), eqb-true _ _ (and-r (eqb (b .one) q) _ z)))
-    (or-cases (eqb (b .one) p && eqb (b .two) q) _ e)
-
-pub none-joined : (p q : ℕ) (bs : List Bond) → some (map (joins p q) bs) ≡ false → count (map (joins p q) bs) ≡ 0
-none-joined p q bs e = let h : count (map (joins p q) bs) ≤ 0 = ltb-false 0 _ (sym (some-count (map (joins p q) bs)) ∙ e) in omega arith
+    (λ z. let y = and-both (eqb (b .one) p) (eqb (b .two) q) z in inl (eqb-true _ _ (y .0), eqb-true _ _ (y .1)))
+    (λ z. let y = and-both (eqb (b .one) q) (eqb (b .two) p) z in inr (eqb-true _ _ (y .0), eqb-true _ _ (y .1)))
+    (or-either (eqb (b .one) p && eqb (b .two) q) _ e)
 
 -- a place that is not there has no bond
 pub none-on : (ks : List ℕ) (p : ℕ) (bs : List Bond) → length ks ≤ p → All (Proper ks) bs → count (map (on p) bs) ≡ 0
 none-on ks p bs h a = count-all-none (on p) (λ b x. simp (ne-eqb (b .one) p (λ e. omega (arith, x .one)), ne-eqb (b .two) p (λ e. omega (arith, x .two)))) bs a
 
 pub none-to : (ks : List ℕ) (p q : ℕ) (bs : List Bond) → length ks ≤ q → All (Proper ks) bs → some (map (joins p q) bs) ≡ false
-none-to ks p q bs h a = let z : count (map (joins p q) bs) ≤ 0 = omega (arith, count-all-none (joins p q) far bs a) in some-count (map (joins p q) bs) ∙ le-ltb 0 _ z
+none-to ks p q bs h a = counted-none (map (joins p q) bs) (count-all-none (joins p q) far bs a)
   where
     far : (b : Bond) → Proper ks b → joins p q b ≡ false
     far b x = ne (joins p q b) refl
@@ -86,22 +111,22 @@ module _ (ks ks′ : List ℕ) (bs : List Bond) (c g m : ℕ) (t : Tidy ks bs) (
   drawn-heavy = pick (hAt ks′ c) refl cH
     where
       pick : (x : Bool) → hAt ks′ c ≡ x → wrong ks′ (bs ++ (bond c g m ∷ [])) c g m ≡ false → (hAt ks′ c && hAt ks′ g) ≡ false
-      pick true e f = simp e (or-l (hAt ks′ g) _ (or-l (hAt ks′ g || ltb 1 m) _ (simp e at f)))
+      pick true e f = simp e (or-neither (hAt ks′ g) _ (or-neither (hAt ks′ g || ltb 1 m) _ (simp e at f) .0) .0)
       pick false e f = simp e
 
   drawn-once : (p q : ℕ) → count (map (joins p q) (bs ++ (bond c g m ∷ []))) ≤ 1
   drawn-once p q = pick (joins p q (bond c g m)) refl
     where
-      none : ((c ≡ p) × (g ≡ q)) ⊎ ((c ≡ q) × (g ≡ p)) → count (map (joins p q) bs) ≡ 0
-      none (inl z) = rw (← (z .0), ← (z .1)) (none-joined c g bs apart)
-      none (inr z) = rw (← (z .0), ← (z .1)) (ap count (joins-swap g c bs) ∙ none-joined c g bs apart)
+      none : Ends p q (bond c g m) → count (map (joins p q) bs) ≡ 0
+      none (inl z) = rw (← (z .0), ← (z .1)) (none-counted _ apart)
+      none (inr z) = rw (← (z .0), ← (z .1)) (ap count (joins-swap g c bs) ∙ none-counted _ apart)
 
       pick : (x : Bool) → joins p q (bond c g m) ≡ x → count (map (joins p q) (bs ++ (bond c g m ∷ []))) ≤ 1
       pick true e = let k = count-snoc (joins p q) bs (bond c g m) in let j = simp e at k in omega (arith, none (joins-ends p q (bond c g m) e))
       pick false e = let k = count-snoc (joins p q) bs (bond c g m) in let j = simp e at k in omega (arith, t .once p q)
 
   few : (p q : ℕ) → hAt ks′ p ≡ true → wrong ks′ (bs ++ (bond c g m ∷ [])) p q m ≡ false → count (map (on p) (bs ++ (bond c g m ∷ []))) ≤ 1
-  few p q e f = ltb-false 1 _ (or-r (hAt ks′ q || ltb 1 m) _ (simp e at f))
+  few p q e f = ltb-false 1 _ (or-neither (hAt ks′ q || ltb 1 m) _ (simp e at f) .1)
 
   drawn-leaf : (p : ℕ) → hAt ks′ p ≡ true → count (map (on p) (bs ++ (bond c g m ∷ []))) ≤ 1
   drawn-leaf p h = pick (eqb c p) (eqb g p) refl refl
@@ -115,24 +140,34 @@ module _ (ks ks′ : List ℕ) (bs : List Bond) (c g m : ℕ) (t : Tidy ks bs) (
       pick false true e f = let z : g ≡ p = eqb-true g p f in subst (λ (r : ℕ). count (map (on r) (bs ++ (bond c g m ∷ []))) ≤ 1) z (few g c (rw z h) gH)
       pick false false e f = let k = count-snoc (on p) bs (bond c g m) in let j = simp (e, f) at k in omega (arith, old (ltb p (length ks)) refl)
 
-  drawn-rooted : (p : ℕ) → 0 < p → p < length ks′ → (d : ℕ) × (d < p) × (some (map (joins d p) (bs ++ (bond c g m ∷ []))) ≡ true)
+  drawn-rooted : (p : ℕ) → 0 < p → p < length ks′ → (d : ℕ) × (d < p) × Joined (bs ++ (bond c g m ∷ [])) d p
   drawn-rooted p pos h = pick (ltb p (length ks)) refl
     where
-      pick : (x : Bool) → ltb p (length ks) ≡ x → (d : ℕ) × (d < p) × (some (map (joins d p) (bs ++ (bond c g m ∷ []))) ≡ true)
+      pick : (x : Bool) → ltb p (length ks) ≡ x → (d : ℕ) × (d < p) × Joined (bs ++ (bond c g m ∷ [])) d p
       pick true e =
           let r = t .rooted p pos (ltb-true p (length ks) e) in
           (r .0, r .1, some-snoc (joins (r .0) p) bs (bond c g m) ∙ rw (r .2))
       pick false e =
           let far : length ks ≤ p = ltb-false p (length ks) e in
           let z : g ≡ p = new p far h in
-          (c, omega arith, some-snoc (joins c p) bs (bond c g m) ∙ rw (← z, joins-self c g m, or-true))
+          (c, omega arith, subst (λ (q : ℕ). Joined (bs ++ (bond c g m ∷ [])) c q) z (joined-last c g m bs))
+
+  still : (b : Bond) → Proper ks b → Proper ks′ b
+  still b x =
+      record {
+        one = omega (arith, x .one);
+        two = omega (arith, x .two);
+        apart = x .apart;
+        mark = x .mark;
+        heavy = rw (same (b .one) (x .one), same (b .two) (x .two)) (x .heavy);
+      }
 
   pub tidy-drawn : Tidy ks′ (bs ++ (bond c g m ∷ []))
   tidy-drawn =
       record {
         known = known;
         proper = all-snoc (Proper ks′) bs (bond c g m)
-            (all-map (λ b x. record { one = omega (arith, x .one); two = omega (arith, x .two); apart = x .apart; mark = x .mark; heavy = rw (same (b .one) (x .one), same (b .two) (x .two)) (x .heavy) }) bs (t .proper))
+            (all-map still bs (t .proper))
             (record { one = omega arith; two = hg; apart = ne; mark = mark; heavy = drawn-heavy });
         once = drawn-once;
         leaf = drawn-leaf;
@@ -164,13 +199,12 @@ atom-reader st m k true e c r =
 atom-reader st m k false e c r =
     let long = length-append (st .kinds) (k ∷ []) in
     let some : length (st .kinds) ≡ 0 → ⊥ = eqb-false _ _ e in
-    let seven = simp e at (c .seven) in
+    let seven = or-neither (wrong (st .kinds ++ (k ∷ [])) (drawn st (length (st .kinds)) m) (st .cursor) (length (st .kinds)) m) _ (simp e at (c .seven)) in
     record {
       tidy = simp e (tidy-drawn (st .kinds) (st .kinds ++ (k ∷ [])) (st .bonds) (st .cursor) (length (st .kinds)) m (r .tidy) (omega arith)
           (λ p h. List·getD-append (st .kinds) (k ∷ []) 0 p h) (all-snoc (λ j. j ≤ 24) (st .kinds) k (r .tidy .known) (ltb-false 24 k (c .three)))
           (λ p h l. omega arith) (r .cursor (omega arith)) (omega arith) (λ q. omega (arith, r .cursor (omega arith))) (c .mark)
-          (none-to (st .kinds) (st .cursor) (length (st .kinds)) (st .bonds) (omega arith) (r .tidy .proper)) (or-l _ _ seven)
-          (or-r (wrong (st .kinds ++ (k ∷ [])) (drawn st (length (st .kinds)) m) (st .cursor) (length (st .kinds)) m) _ seven));
+          (none-to (st .kinds) (st .cursor) (length (st .kinds)) (st .bonds) (omega arith) (r .tidy .proper)) (seven .0) (seven .1));
       cursor = λ h. omega arith;
     }
 
@@ -180,10 +214,11 @@ reader-after st (atom m k) c r = atom-reader st m k (eqb (length (st .kinds)) 0)
 reader-after st (reference t) c r = record { tidy = r .tidy; cursor = λ h. leb-false _ _ (c .five) }
 reader-after st (ring m t) c r =
     let there : placeOf st t < length (st .kinds) = leb-false _ _ (c .five) in
+    let seven = or-neither (wrong (st .kinds) (drawn st (placeOf st t) m) (st .cursor) (placeOf st t) m) _ (c .seven) in
+    let six = or-neither (eqb (st .cursor) (placeOf st t)) _ (c .six) in
     record {
       tidy = tidy-drawn (st .kinds) (st .kinds) (st .bonds) (st .cursor) (placeOf st t) m (r .tidy) (omega arith) (λ p h. refl) (r .tidy .known)
-          (λ p h l. absurd (omega arith)) (r .cursor (omega arith)) there (eqb-false _ _ (or-l _ _ (c .six))) (c .mark) (or-r (eqb (st .cursor) (placeOf st t)) _ (c .six))
-          (or-l _ _ (c .seven)) (or-r (wrong (st .kinds) (drawn st (placeOf st t) m) (st .cursor) (placeOf st t) m) _ (c .seven));
+          (λ p h l. absurd (omega arith)) (r .cursor (omega arith)) there (eqb-false _ _ (six .0)) (c .mark) (six .1) (seven .0) (seven .1);
       cursor = λ h. there;
     }
 

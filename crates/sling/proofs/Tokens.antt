@@ -9,10 +9,11 @@ use native.Mathlib.Omega.{arith}
 use lib.ListN.{length, length-append}
 use lib.Dec.{leb}
 use borrow.Author.Tests.{lt-leb, ne-eqb, leb-true}
+use Rattle.lists.proofs.Booleans.{and-both}
 use Rattle.sling.specs.Items.{Target, at, up, Item, atom, reference, ring}
 use Rattle.sling.specs.Scanned.{got, isDigit, smallFirst, numberAt, placed, target, body, scan, Token, tok, tokens}
 use Rattle.sling.specs.Printed.{decimal, markBytes, symbolBytes, plus, itemBytes, endsInDigit, bytes}
-use Rattle.sling.proofs.ListLaws.{All, and-l, and-r}
+use Rattle.sling.proofs.ListLaws.{All}
 use Rattle.sling.proofs.Numbers.{digitFirst, decimal-read, decimal-long, decimal-first}
 use Rattle.sling.proofs.Symbols.{body-symbol, scan-symbol, symbol-first, symbol-long}
 
@@ -39,10 +40,10 @@ Plain (ring m (at p)) = IsMark m × (p < 1000)
 Plain (ring m (up k)) = ⊥
 
 digit-low : (b : ℕ) → isDigit b ≡ true → 48 ≤ b
-digit-low b e = leb-true 48 b (and-l (leb 48 b) (leb b 57) e)
+digit-low b e = leb-true 48 b (and-both (leb 48 b) (leb b 57) e .0)
 
 digit-high : (b : ℕ) → isDigit b ≡ true → b ≤ 57
-digit-high b e = leb-true b 57 (and-r (leb 48 b) (leb b 57) e)
+digit-high b e = leb-true b 57 (and-both (leb 48 b) (leb b 57) e .1)
 
 target-digit : (b : ℕ) (l : List ℕ) (k : ℕ) (f : Target → Item) → isDigit b ≡ true → target (b ∷ l) k f ≡ placed (numberAt (b ∷ l)) k f
 unfolding target

@@ -9,7 +9,7 @@ use lib.ListN.{length}
 use Rattle.sling.specs.Items.{Item}
 use Rattle.sling.specs.Scanned.{Token, tok, bad}
 use Rattle.sling.specs.Reading.{State, goal, after}
-use Rattle.sling.specs.Faults.{misplaced, unknown, missing, codeOf, brokenH, badBond, over, itemFault, Outcome, stopped, finished, judged, run}
+use Rattle.sling.specs.Faults.{misplaced, unknown, missing, codeOf, brokenH, badBond, over, itemFault, stopped, finished, judged, run}
 use Rattle.sling.specs.Printed.{itemBytes, endsInDigit}
 use Rattle.sling.proofs.ListLaws.{All}
 use Rattle.sling.proofs.Tokens.{tokensOf}
@@ -73,7 +73,7 @@ pub record Accepted (st sv : State) : Type 0 where
   pub walk : Walk st items sv
   pub kept : Kept st items
 
-stopped-not : {A : Type 0} (n o : ℕ) (sv : State) → stopped n o ≡ finished sv → A
+pub stopped-not : {A : Type 0} (n o : ℕ) (sv : State) → stopped n o ≡ finished sv → A
 stopped-not n o sv e = absurd (let z : _≡_ {A = ℕ} 0 1 = cc in omega arith)
 
 pub run-walk : (ts : List Token) (st sv : State) → All MarkedToken ts → run ts st ≡ finished sv → Accepted st sv
@@ -82,7 +82,8 @@ run-walk [] st sv h e = record { items = []; walk = let q : st ≡ sv = cc in rw
 run-walk (bad o ∷ ts) st sv h e = stopped-not 2 o sv e
 run-walk (tok o i ∷ ts) st sv h e = pick (itemFault st i) refl e (run-walk ts (after st i) sv (h .1))
   where
-    pick : (f : ℕ) → itemFault st i ≡ f → judged f o (after st i) (run ts) ≡ finished sv → (run ts (after st i) ≡ finished sv → Accepted (after st i) sv) → Accepted st sv
+    pick : (f : ℕ) → itemFault st i ≡ f → judged f o (after st i) (run ts) ≡ finished sv
+        → (run ts (after st i) ≡ finished sv → Accepted (after st i) sv) → Accepted st sv
     pick zero q r f =
         let c = fault-clear st i (h .0) q in
         let a = f r in
