@@ -26,8 +26,18 @@ module _ (out : Molecule → List ℕ) (card : List ℕ) (allowance room : ℕ) 
   unfolding ofCard numbered
   card-answered w = ap (λ n. unlessFaulty n (within (leafCount rule1 M) (out M))) w
 
+  pub card-faulty : (n : ℕ) → cardFault card ≡ n → n ≢ 0 → ofCard out card allowance room ≡ refused n 0
+  unfolding ofCard numbered
+  card-faulty zero e ne = absurd (ne refl)
+  card-faulty (suc n) e ne = ap (λ k. unlessFaulty k (within (leafCount rule1 M) (out M))) e
+
   pub card-refused-9 : WellFormed card → allowance < leafCount rule1 (moleculeOf card) → ofCard out card allowance room ≡ refused 9 0
   card-refused-9 w h = card-answered w ∙ rw (lt-ltb allowance (leafCount rule1 M) h)
+
+  pub card-refused-10 : WellFormed card → leafCount rule1 (moleculeOf card) ≤ allowance → room < length (out (moleculeOf card))
+      → ofCard out card allowance room ≡ refused 10 0
+  unfolding inRoom
+  card-refused-10 w h l = card-answered w ∙ rw (le-ltb allowance (leafCount rule1 M) h, lt-ltb room (length (out M)) l)
 
   pub card-accepted : WellFormed card → leafCount rule1 (moleculeOf card) ≤ allowance → length (out (moleculeOf card)) ≤ room
       → ofCard out card allowance room ≡ accepted (leafCount rule1 (moleculeOf card)) (out (moleculeOf card))

@@ -5,6 +5,7 @@ pub mod Stopped
 pub mod Settled
 pub mod Whole
 pub mod Answered
+pub mod Through
 pub mod Same
 pub mod Again
 pub mod Read
