@@ -1,25 +1,21 @@
 -- How many numbers below n pass a test, told from how many pass another: counting is a sum of 0 and 1.
 use mathlib.Core.Path.{_≡_, refl, sym, _∙_, ap}
-use mathlib.Core.Bool.{Bool, true, false, cond}
-use mathlib.Core.List.{List, [], _∷_, map}
-use Prim.Native.Nat.{ℕ, zero, suc, _+_, _≤_, _<_}
-use native.Mathlib.Decide.{ℕ-discrete}
+use mathlib.Core.Bool.{Bool, true, false, cond, _&&_, and-false, false≢true}
+use mathlib.Core.Logic.{_⊎_, ⊎-elim}
+use Prim.Native.Nat.{ℕ, _+_, _≤_, _<_}
+use native.Mathlib.Decide.{decLt, ℕ-discrete}
 use native.Mathlib.Omega.{arith}
 use borrow.Author.Tests.{eq-eqb, ne-eqb}
 use lib.Dec.{eqb}
-use lib.ListN.{length}
 use Rattle.lists.specs.Upto.{upto, each, sum}
-use Rattle.lists.specs.Tests.{keep, count}
-use Rattle.lists.proofs.Upto.{each-eq}
-use Rattle.lists.proofs.Steps.{count-next}
-use Rattle.lists.proofs.Sums.{sum-eq, sum-add, sum-le, sum-lt, sum-const, count-sum}
+use Rattle.lists.specs.Tests.{count}
+use Rattle.lists.proofs.Booleans.{cond-le, eqb-swap}
+use Rattle.lists.proofs.Upto.{each-eq, of-upto}
+use Rattle.lists.proofs.Passed.{count-map-none, count-map-le, count-map-apart}
+use Rattle.lists.proofs.Sums.{sum-add, sum-le, sum-lt, sum-const, sum-pick, count-sum}
 
 abbrev bit : Bool → ℕ
 bit b = cond b 1 0
-
-bit-le : (s t : Bool) → (s ≡ true → t ≡ true) → bit s ≤ bit t
-bit-le true t h = rw (h refl) (omega arith)
-bit-le false t h = omega arith
 
 count-bits : (n : ℕ) (p : ℕ → Bool) → count (each n p) ≡ sum (each n (λ a. bit (p a)))
 unfolding each
@@ -28,32 +24,41 @@ count-bits n p = count-sum p (upto n)
 pub count-eq : (n : ℕ) (p q : ℕ → Bool) → ((a : ℕ) → a < n → p a ≡ q a) → count (each n p) ≡ count (each n q)
 count-eq n p q h = ap count (each-eq n p q h)
 
+pub count-none : (n : ℕ) (p : ℕ → Bool) → ((a : ℕ) → a < n → p a ≡ false) → count (each n p) ≡ 0
+unfolding each
+count-none n p h = count-map-none (upto n) p (λ a m. h a (of-upto n a m))
+
 -- what passes p passes q
 pub count-le : (n : ℕ) (p q : ℕ → Bool) → ((a : ℕ) → a < n → p a ≡ true → q a ≡ true) → count (each n p) ≤ count (each n q)
-count-le n p q h = rw (count-bits n p, count-bits n q) (sum-le n _ _ (λ a l. bit-le (p a) (q a) (h a l)))
+unfolding each
+count-le n p q h = count-map-le (upto n) p q (λ a m. h a (of-upto n a m))
 
 -- what passes p passes q, and x passes only q
 pub count-lt : (n : ℕ) (p q : ℕ → Bool) → ((a : ℕ) → a < n → p a ≡ true → q a ≡ true) → (x : ℕ) → x < n → p x ≡ false → q x ≡ true
     → count (each n p) < count (each n q)
-count-lt n p q h x k e f = rw (count-bits n p, count-bits n q) (sum-lt n _ _ (λ a l. bit-le (p a) (q a) (h a l)) x k (rw (e, f) (omega arith)))
+count-lt n p q h x k e f = rw (count-bits n p, count-bits n q) (sum-lt n _ _ (λ a l. cond-le (p a) (q a) (h a l)) x k (rw (e, f) (omega arith)))
 
 -- what passes r passes p or q, and nothing passes both
 pub count-split : (n : ℕ) (p q r : ℕ → Bool) → ((a : ℕ) → a < n → bit (r a) ≡ bit (p a) + bit (q a)) → count (each n r) ≡ count (each n p) + count (each n q)
 count-split n p q r h = rw (count-bits n p, count-bits n q, count-bits n r) (sum-add n _ _ _ h)
 
+-- what passes r passes p or q
+pub count-cover : (n : ℕ) (p q r : ℕ → Bool) → ((a : ℕ) → a < n → r a ≡ true → (p a ≡ true) ⊎ (q a ≡ true)) → count (each n r) ≤ count (each n p) + count (each n q)
+count-cover n p q r h =
+    let s : sum (each n (λ a. bit (r a))) ≤ sum (each n (λ a. bit (p a) + bit (q a))) = sum-le n _ _ (λ a l. go (r a) (p a) (q a) (h a l)) in
+    omega (arith, count-bits n p, count-bits n q, count-bits n r, sum-add n (λ a. bit (p a)) (λ a. bit (q a)) (λ a. bit (p a) + bit (q a)) (λ a l. refl))
+  where
+    go : (s t u : Bool) → (s ≡ true → (t ≡ true) ⊎ (u ≡ true)) → bit s ≤ bit t + bit u
+    go true true u k = omega arith
+    go true false true k = omega arith
+    go true false false k = absurd (⊎-elim false≢true false≢true (k refl))
+    go false t u k = omega arith
+
 -- what passes p or q passes r, and nothing passes both
 pub count-apart : (n : ℕ) (p q r : ℕ → Bool) → ((a : ℕ) → a < n → p a ≡ true → (r a ≡ true) × (q a ≡ false)) → ((a : ℕ) → a < n → q a ≡ true → r a ≡ true)
     → count (each n p) + count (each n q) ≤ count (each n r)
-count-apart n p q r h k =
-    let s : sum (each n (λ a. bit (p a) + bit (q a))) ≤ sum (each n (λ a. bit (r a))) = sum-le n _ _ (λ a l. go (p a) (q a) (r a) (h a l) (k a l)) in
-    omega (arith, count-bits n p, count-bits n q, count-bits n r, sum-add n (λ a. bit (p a)) (λ a. bit (q a)) (λ a. bit (p a) + bit (q a)) (λ a l. refl))
-  where
-    go : (s t u : Bool) → (s ≡ true → (u ≡ true) × (t ≡ false)) → (t ≡ true → u ≡ true) → bit s + bit t ≤ bit u
-    go true t u h k = rw (h refl .0, h refl .1) (omega arith)
-    go false t u h k = omega (arith, bit-le t u k)
-
-pub count-none : (n : ℕ) (p : ℕ → Bool) → ((a : ℕ) → a < n → p a ≡ false) → count (each n p) ≡ 0
-count-none n p h = count-bits n p ∙ sum-eq n (λ a. bit (p a)) (λ a. 0) (λ a l. ap bit (h a l)) ∙ sum-const n 0 ∙ omega arith
+unfolding each
+count-apart n p q r h k = count-map-apart (upto n) p q r (λ a m. h a (of-upto n a m)) (λ a m. k a (of-upto n a m))
 
 pub count-below : (n : ℕ) (p : ℕ → Bool) → count (each n p) ≤ n
 count-below n p =
@@ -67,18 +72,28 @@ count-fewer n p x k e =
     omega (arith, count-bits n (λ a. true), sum-const n 1)
 
 pub count-one : (n a : ℕ) → a < n → count (each n (λ b. eqb b a)) ≡ 1
-count-one zero a h = absurd (omega arith)
-count-one (suc n) a h = count-next n (λ b. eqb b a) ∙ go (ℕ-discrete a n) (count-one n a)
-  where
-    go : Dec (a ≡ n) → (a < n → count (each n (λ b. eqb b a)) ≡ 1) → count (each n (λ b. eqb b a)) + bit (eqb n a) ≡ 1
-    go (yes e) ih = rw (eq-eqb n a (sym e)) (omega (arith, count-none n (λ b. eqb b a) (λ b l. ne-eqb b a (λ d. omega arith))))
-    go (no e) ih = rw (ne-eqb n a (λ d. e (sym d))) (omega (arith, ih (omega arith)))
+count-one n a h = count-bits n (λ b. eqb b a) ∙ sum-pick n a 1 h
 
-pub length-keep : {A : Type 0} (p : A → Bool) (l : List A) → length (keep p l) ≡ count (map p l)
-unfolding keep
-length-keep p [] = refl
-length-keep p (x ∷ l) = go (p x) (length-keep p l)
+-- only a is looked at
+pub count-pick : (n a : ℕ) (p : ℕ → Bool) → a < n → count (each n (λ b. p b && eqb a b)) ≡ cond (p a) 1 0
+count-pick n a p h = count-eq n (λ b. p b && eqb a b) (λ b. p a && eqb b a) (λ b l. at b (ℕ-discrete b a)) ∙ go (p a)
   where
-    go : (b : Bool) → length (keep p l) ≡ count (map p l) → length (cond b (x ∷ keep p l) (keep p l)) ≡ bit b + count (map p l)
-    go true ih = omega arith
-    go false ih = omega arith
+    at : (b : ℕ) → Dec (b ≡ a) → (p b && eqb a b) ≡ (p a && eqb b a)
+    at b (yes e) = ap (λ c. p c && eqb a b) e ∙ ap (λ t. p a && t) (eqb-swap a b)
+    at b (no e) = simp (ne-eqb a b (λ f. e (sym f)), ne-eqb b a e, and-false)
+
+    go : (t : Bool) → count (each n (λ b. t && eqb b a)) ≡ bit t
+    go true = count-one n a h
+    go false = count-none n (λ b. false) (λ b l. refl)
+
+-- only a passes, if any does
+pub count-only : (n a : ℕ) (p : ℕ → Bool) → ((b : ℕ) → b < n → p b ≡ true → b ≡ a) → count (each n p) ≤ 1
+count-only n a p h = go (decLt a n)
+  where
+    fails : n ≤ a → (b : ℕ) → b < n → (t : Bool) → p b ≡ t → t ≡ false
+    fails k b l true e = absurd (omega (arith, h b l e))
+    fails k b l false e = refl
+
+    go : Dec (a < n) → count (each n p) ≤ 1
+    go (yes k) = omega (arith, count-le n p (λ b. eqb b a) (λ b l e. eq-eqb b a (h b l e)), count-one n a k)
+    go (no k) = let o : n ≤ a = omega arith in omega (arith, count-none n p (λ b l. fails o b l (p b) refl))

@@ -5,7 +5,7 @@ use mathlib.Core.List.{List, [], _∷_, map, map-map, headD, List·Permᴰ, Perm
 use mathlib.Core.Logic.{_⊎_, inl, inr}
 use Rattle.lists.specs.Tests.{keep}
 use Rattle.lists.proofs.Permutation.{keep-perm}
-use Rattle.lists.proofs.Least.{headD-mem}
+use Rattle.lists.proofs.Members.{headD-mem}
 
 pub keep-map : {A B : Type 0} (p : B → Bool) (f : A → B) (l : List A) → keep p (map f l) ≡ map f (keep (λ a. p (f a)) l)
 unfolding keep
@@ -24,10 +24,6 @@ keep-eq [] p q h = refl
 keep-eq (x ∷ l) p q h =
     let e = keep-eq l p q (λ a m. h a (List·Memᴰ·tail m)) in
     λ i. cond (h x (List·Memᴰ·head refl) i) (x ∷ e i) (e i)
-
-pub map-eq : {A B : Type 0} (l : List A) (f g : A → B) → ((a : A) → List·Memᴰ a l → f a ≡ g a) → map f l ≡ map g l
-map-eq [] f g h = refl
-map-eq (x ∷ l) f g h = λ i. h x (List·Memᴰ·head refl) i ∷ map-eq l f g (λ a m. h a (List·Memᴰ·tail m)) i
 
 pub mem-keep : {A : Type 0} (p : A → Bool) (l : List A) (x : A) → List·Memᴰ x l → p x ≡ true → List·Memᴰ x (keep p l)
 unfolding keep

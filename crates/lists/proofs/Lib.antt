@@ -1,9 +1,13 @@
 pub mod Open
 mod Examples
 pub mod Booleans
+pub mod Members
+pub mod All
 pub mod Upto
 pub mod Tested
+pub mod Found
 pub mod Kept
+pub mod Passed
 pub mod Counts
 pub mod Sums
 pub mod Steps

@@ -14,7 +14,8 @@ use Rattle.lists.specs.Tests.{keep}
 use Rattle.lists.specs.Shuffle.{Shuffle}
 use Rattle.lists.proofs.Permutation.{perm-of-eq, length-perm, keep-perm, mem-perm}
 use Rattle.lists.proofs.Upto.{each-eq, mem-upto, of-upto, of-from}
-use Rattle.lists.proofs.Kept.{keep-map, keep-eq, map-eq, of-keep, first-kept}
+use Rattle.lists.proofs.Members.{map-eq}
+use Rattle.lists.proofs.Kept.{keep-map, keep-eq, of-keep, first-kept}
 
 abbrev pub Distinct : List ℕ → Type 0
 Distinct [] = Unit

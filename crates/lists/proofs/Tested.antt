@@ -1,15 +1,17 @@
--- What `every` and `some` say of the elements that were tested: over the members of a list, and over the numbers below n.
+-- What `every` and `some` say of the elements that were tested, over the members of a list and over the numbers below n; and what `some` says of
+-- how many passed.
 use mathlib.Core.Path.{_≡_, refl, sym, _∙_, ap}
-use mathlib.Core.Bool.{Bool, true, false, _&&_, _||_, true≢false}
-use mathlib.Core.List.{List, [], _∷_, map, List·Memᴰ, List·Memᴰ·head, List·Memᴰ·tail, List·Memᴰ·not-nil, List·Memᴰ·cases-cons}
+use mathlib.Core.Bool.{Bool, true, false, cond, _&&_, _||_, or-false, true≢false}
+use mathlib.Core.List.{List, [], _∷_, _++_, map, map-append, List·Memᴰ, List·Memᴰ·head, List·Memᴰ·tail, List·Memᴰ·not-nil, List·Memᴰ·cases-cons}
 use mathlib.Core.Logic.{_⊎_, inl, inr}
-use Prim.Native.Nat.{ℕ, _+_, _<_}
+use Prim.Native.Nat.{ℕ, _+_, _<_, _≤_}
 use native.Mathlib.Nat.{zero-add}
 use native.Mathlib.Omega.{arith}
-use borrow.Author.Tests.{lt-ltb}
+use borrow.Author.Tests.{lt-ltb, ltb-true, ltb-false}
 use lib.Dec.{ltb}
 use Rattle.lists.specs.Upto.{upto, each}
 use Rattle.lists.specs.Tests.{count, every, some}
+use Rattle.lists.proofs.Steps.{some-append}
 use Rattle.lists.proofs.Upto.{mem-upto, of-upto}
 
 module _ {A : Type 0} (p : A → Bool) where
@@ -59,13 +61,6 @@ module _ {A : Type 0} (p : A → Bool) where
       go false q (inl f) ih = cc
       go false q (inr d) ih = ih d e
 
-  pub some-false : (l : List A) → some (map p l) ≡ false → (x : A) → List·Memᴰ x l → p x ≡ false
-  some-false l e x d = go (p x) refl
-    where
-      go : (b : Bool) → p x ≡ b → b ≡ false
-      go true q = sym (some-pass l x d q) ∙ e
-      go false q = refl
-
 module _ (n : ℕ) (p : ℕ → Bool) where
   pub every-true-below : every (each n p) ≡ true → (a : ℕ) → a < n → p a ≡ true
   unfolding each
@@ -79,21 +74,28 @@ module _ (n : ℕ) (p : ℕ → Bool) where
   unfolding each
   every-pass-below h = every-pass p (upto n) (λ a d. h a (of-upto n a d))
 
-  pub some-true-below : some (each n p) ≡ true → (a : ℕ) × (a < n) × (p a ≡ true)
-  unfolding each
-  some-true-below e = let w = some-true p (upto n) e in (w .0, of-upto n (w .0) (w .1), w .2)
-
-  pub some-pass-below : (a : ℕ) → a < n → p a ≡ true → some (each n p) ≡ true
-  unfolding each
-  some-pass-below a h = some-pass p (upto n) a (mem-upto n a h)
-
-  pub some-false-below : some (each n p) ≡ false → (a : ℕ) → a < n → p a ≡ false
-  unfolding each
-  some-false-below e a h = some-false p (upto n) e a (mem-upto n a h)
-
 -- one passes exactly if not none is counted
 pub some-count : (l : List Bool) → some l ≡ ltb 0 (count l)
 unfolding some
 some-count [] = refl
 some-count (true ∷ l) = sym (lt-ltb 0 (1 + count l) (omega arith))
 some-count (false ∷ l) = some-count l ∙ ap (ltb 0) (sym (zero-add (count l)))
+
+pub some-true-count : (l : List Bool) → some l ≡ true → 0 < count l
+some-true-count l e = ltb-true 0 _ (sym (some-count l) ∙ e)
+
+pub some-false-count : (l : List Bool) → some l ≡ false → count l ≡ 0
+some-false-count l e = let h : count l ≤ 0 = ltb-false 0 _ (sym (some-count l) ∙ e) in omega arith
+
+-- at most one passes
+pub some-one : (l : List Bool) → count l ≤ 1 → cond {A = ℕ} (some l) 1 0 ≡ count l
+some-one l h = go (some l) refl
+  where
+    go : (b : Bool) → some l ≡ b → cond {A = ℕ} b 1 0 ≡ count l
+    go true e = omega (arith, some-true-count l e)
+    go false e = sym (some-false-count l e)
+
+-- one element more at the end
+pub some-snoc : {A : Type 0} (p : A → Bool) (l : List A) (x : A) → some (map p (l ++ (x ∷ []))) ≡ (some (map p l) || p x)
+unfolding some
+some-snoc p l x = ap some (map-append p l (x ∷ [])) ∙ some-append (map p l) (p x ∷ []) ∙ ap (λ (b : Bool). some (map p l) || b) (or-false (p x))

@@ -1,14 +1,16 @@
--- The numbers below a bound, and the list of something of each: what stands at a place, what is in it, and how long it is.
--- Each law is first one on the numbers from k on, by induction on how many there are.
+-- The numbers below a bound, and the list of something of each: what stands at a place, what is in it, and how long it is; and every list is that of
+-- what stands at its places. A law on the numbers below a bound is first one on those from k on, by induction on how many there are.
 use mathlib.Core.Path.{_≡_, refl, sym, _∙_, ap}
-use mathlib.Core.List.{_∷_, map, map-map, List·Memᴰ, List·Memᴰ·head, List·Memᴰ·tail, List·Memᴰ·not-nil, List·Memᴰ·cases-cons, Memᴰ·map, Memᴰ·of-map}
+use mathlib.Core.List.{List, [], _∷_, _++_, map, map-id, map-map, List·Memᴰ, List·Memᴰ·head, List·Memᴰ·tail, List·Memᴰ·not-nil, List·Memᴰ·cases-cons, Memᴰ·map, Memᴰ·of-map}
 use mathlib.Core.Logic.{_⊎_, inl, inr}
 use Prim.Native.Nat.{ℕ, zero, suc, _+_, _≤_, _<_}
 use native.Mathlib.Nat.{add-zero, zero-add, not-suc-le-zero}
 use native.Mathlib.Decide.{ℕ-discrete}
 use native.Mathlib.Omega.{arith}
-use lib.ListN.{length, getD, length-map}
+use lib.ListN.{length, getD, take, length-map}
+use lib.Seq.{take-suc, take-length}
 use Rattle.lists.specs.Upto.{from, upto, each}
+use Rattle.lists.proofs.Steps.{each-zero, each-next}
 
 getD-from : {A : Type 0} (f : ℕ → A) (k n i : ℕ) (d : A) → i < n → getD (map f (from k n)) i d ≡ f (k + i)
 unfolding from
@@ -19,6 +21,10 @@ getD-from f k (suc n) (suc i) d h = getD-from f (suc k) n i d (omega arith) ∙ 
 pub getD-each : {A : Type 0} (n : ℕ) (f : ℕ → A) (i : ℕ) (d : A) → i < n → getD (each n f) i d ≡ f i
 unfolding each
 getD-each n f i d h = getD-from f 0 n i d h ∙ ap f (zero-add i)
+
+pub getD-upto : (n i d : ℕ) → i < n → getD (upto n) i d ≡ i
+unfolding each
+getD-upto n i d h = ap (λ l. getD l i d) (sym (map-id (upto n))) ∙ getD-each n (λ a. a) i d h
 
 -- two such lists that are equal are so place by place
 pub each-at : {A : Type 0} (d : A) {n n′ : ℕ} (f f′ : ℕ → A) → each n f ≡ each n′ f′ → (i : ℕ) → i < n → i < n′ → f i ≡ f′ i
@@ -42,9 +48,22 @@ unfolding from
 length-from k zero = refl
 length-from k (suc n) = ap suc (length-from (suc k) n)
 
+pub length-upto : (n : ℕ) → length (upto n) ≡ n
+length-upto n = length-from 0 n
+
 pub length-each : {A : Type 0} (n : ℕ) (f : ℕ → A) → length (each n f) ≡ n
 unfolding each
-length-each n f = length-map (upto n) f ∙ length-from 0 n
+length-each n f = length-map (upto n) f ∙ length-upto n
+
+-- a list by its places, up to k and to its end
+pub each-take : {A : Type 0} (l : List A) (k : ℕ) (d : A) → k ≤ length l → each k (λ i. getD l i d) ≡ take k l
+each-take l zero d h = each-zero (λ i. getD l i d)
+each-take l (suc k) d h =
+    each-next k (λ i. getD l i d) ∙ ap (λ r. r ++ (getD l k d ∷ [])) (each-take l k d (omega arith)) ∙ sym (take-suc l k d h)
+
+pub each-getD : {A B : Type 0} (f : A → B) (l : List A) (d : A) → each (length l) (λ i. f (getD l i d)) ≡ map f l
+each-getD f l d =
+    sym (map-each f (length l) (λ i. getD l i d)) ∙ ap (map f) (each-take l (length l) d (omega arith) ∙ take-length l)
 
 mem-from : (k n a : ℕ) → k ≤ a → a < k + n → List·Memᴰ a (from k n)
 unfolding from

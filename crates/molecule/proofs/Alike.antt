@@ -9,7 +9,8 @@ use lib.ListN.{length, getD}
 use Rattle.lists.specs.Upto.{upto, each, sum}
 use Rattle.lists.specs.Tests.{keep, count}
 use Rattle.lists.proofs.Upto.{each-eq, of-upto}
-use Rattle.lists.proofs.Kept.{keep-eq, map-eq, of-keep}
+use Rattle.lists.proofs.Members.{map-eq}
+use Rattle.lists.proofs.Kept.{keep-eq, of-keep}
 use Rattle.lists.proofs.Permutation.{count-perm, sum-perm}
 use Rattle.lists.proofs.Shuffled.{shuffle-onto, each-perm}
 use Rattle.molecule.specs.Kinds.{numberOf}
@@ -64,7 +65,7 @@ any-atom M even L S c a h e = go (S 0) refl
 
 module _ {σ : ℕ → ℕ} {M M′ : Molecule} (E : Renumbered σ M M′) where
   -- what holds of each atom renumbered holds of all
-  over : (P : ℕ → Type 0) → ((a : ℕ) → a < M .size → P (σ a)) → (b : ℕ) → b < M′ .size → P b
+  pub over : (P : ℕ → Type 0) → ((a : ℕ) → a < M .size → P (σ a)) → (b : ℕ) → b < M′ .size → P b
   over P h b k = let w = shuffle-onto (E .shuffle) b (omega (arith, E .size)) in subst P (w .2) (h (w .0) (w .1))
 
   over-two : (P : ℕ → ℕ → Type 0) → ((a b : ℕ) → a < M .size → b < M .size → P (σ a) (σ b)) → (a b : ℕ) → a < M′ .size → b < M′ .size → P a b
@@ -73,7 +74,7 @@ module _ {σ : ℕ → ℕ} {M M′ : Molecule} (E : Renumbered σ M M′) where
   kind-along : (a : ℕ) → a < M .size → kind M′ (σ a) ≡ kind M a
   kind-along a h = ap (λ l. getD l 0 0) (E .label a h)
 
-  hydrogens-along : (a : ℕ) → a < M .size → hydrogens M′ (σ a) ≡ hydrogens M a
+  pub hydrogens-along : (a : ℕ) → a < M .size → hydrogens M′ (σ a) ≡ hydrogens M a
   hydrogens-along a h = ap (λ l. getD l 1 0) (E .label a h)
 
   pub degree-along : (a : ℕ) → a < M .size → length (neighbours M′ (σ a)) ≡ length (neighbours M a)
@@ -82,7 +83,7 @@ module _ {σ : ℕ → ℕ} {M M′ : Molecule} (E : Renumbered σ M M′) where
       ∙ count-perm (each-perm (E .shuffle) (bonded M a) (bonded M′ (σ a)) (λ b k. ap (λ c. not (eqb c 0)) (E .code a b h k)))
       ∙ sym (length-neighbours M a)
 
-  sum-along : (f f′ : ℕ → ℕ) → ((a : ℕ) → a < M .size → f′ (σ a) ≡ f a) → sum (each (M′ .size) f′) ≡ sum (each (M .size) f)
+  pub sum-along : (f f′ : ℕ → ℕ) → ((a : ℕ) → a < M .size → f′ (σ a) ≡ f a) → sum (each (M′ .size) f′) ≡ sum (each (M .size) f)
   sum-along f f′ h = ap (λ n. sum (each n f′)) (E .size) ∙ sum-perm (each-perm (E .shuffle) f f′ h)
 
   linked-along : Even M → 0 < M .size → Linked M → Linked M′

@@ -4,18 +4,17 @@ use mathlib.Core.List.{List, [], _∷_, map, List·Memᴰ, List·Memᴰ·head, L
 use mathlib.Core.Logic.{_⊎_, inl, inr, ⊎-elim, _≢_}
 use mathlib.Core.Path.{_≡_, refl, sym, _∙_, ap}
 use Prim.Native.Nat.{ℕ, _+_, _*_, _<_, _≤_}
-use native.Mathlib.Decide.{ℕ-discrete}
 use native.Mathlib.Omega.{arith}
 use lib.Dec.{eqb}
 use lib.ListN.{length}
-use borrow.Author.Tests.{eq-eqb, ne-eqb, eqb-true}
+use borrow.Author.Tests.{eqb-true}
 use Rattle.lists.specs.Upto.{upto, each, sum}
 use Rattle.lists.specs.Tests.{count}
 use Rattle.lists.proofs.Booleans.{and-both, or-either}
-use Rattle.lists.proofs.Sums.{sum-add, sum-const, count-sum}
-use Rattle.lists.proofs.Counts.{count-none, count-one, count-split}
+use Rattle.lists.proofs.Sums.{sum-map-const, sum-swap}
+use Rattle.lists.proofs.Members.{map-eq}
+use Rattle.lists.proofs.Counts.{count-none, count-split, count-cover, count-pick, count-only}
 use Rattle.molecule.specs.Bonds.{Bond, on, joins, codeIn}
-use Rattle.molecule.proofs.ListLaws.{count-cover, count-only}
 
 pub joins-swap : (p q : ℕ) (b : Bond) → joins p q b ≡ joins q p b
 joins-swap p q b = or-comm (eqb (b .one) p && eqb (b .two) q) (eqb (b .one) q && eqb (b .two) p)
@@ -49,6 +48,26 @@ codeIn-coded (b ∷ bs) p q = go (joins p q b) refl (codeIn-coded bs p q)
     go true e w = inl (b, List·Memᴰ·head refl, e, rw e)
     go false e (inl w) = inl (w .0, List·Memᴰ·tail (w .1), w .2, rw e (w .3))
     go false e (inr w) = inr (λ c m. ⊎-elim (λ (f : c ≡ b). ap (joins p q) f ∙ e) (w .0 c) (List·Memᴰ·cases-cons m), rw e (w .1))
+
+-- a bound on every code
+pub codeIn-le : (bs : List Bond) (p q m : ℕ) → ((b : Bond) → List·Memᴰ b bs → b .code ≤ m) → codeIn bs p q ≤ m
+codeIn-le bs p q m h = go (codeIn-coded bs p q)
+  where
+    go : Coded bs p q → codeIn bs p q ≤ m
+    go (inl w) = omega (arith, w .3, h (w .0) (w .1))
+    go (inr w) = omega (arith, w .1)
+
+-- no atom has a bond to itself where every bond has two ends
+pub codeIn-self : (bs : List Bond) (p : ℕ) → ((b : Bond) → List·Memᴰ b bs → b .one ≢ b .two) → codeIn bs p p ≡ 0
+codeIn-self bs p h = go (codeIn-coded bs p p)
+  where
+    same : (b : Bond) → Between p p b → b .one ≡ b .two
+    same b (inl w) = omega arith
+    same b (inr w) = omega arith
+
+    go : Coded bs p p → codeIn bs p p ≡ 0
+    go (inl w) = absurd (h (w .0) (w .1) (same (w .0) (joins-ends p p (w .0) (w .2))))
+    go (inr w) = w .1
 
 -- p has in b at most one other atom, and none if it is no end
 joins-few : (n p : ℕ) (b : Bond) → count (each n (λ q. joins p q b)) ≤ cond (on p b) 1 0
@@ -85,30 +104,23 @@ coded-few (b ∷ bs) n p =
 abbrev pub Ends : ℕ → Bond → Type 0
 Ends n b = (b .one < n) × (b .two < n) × (b .one ≢ b .two)
 
-ends-two : (n : ℕ) (b : Bond) → Ends n b → sum (each n (λ p. cond (on p b) 1 0)) ≡ 2
-unfolding each
-ends-two n b h =
-    omega (
-      arith,
-      count-sum (λ p. on p b) (upto n),
-      count-split n (λ p. eqb p (b .one)) (λ p. eqb p (b .two)) (λ p. on p b) (λ p l. go p (ℕ-discrete p (b .one)) (ℕ-discrete p (b .two))),
-      count-one n (b .one) (h .0),
-      count-one n (b .two) (h .1),
-    )
+-- the atoms that pass a test and are an end of a bond
+pub ends-count : (n : ℕ) (f : ℕ → Bool) (b : Bond) → Ends n b → count (each n (λ p. f p && on p b)) ≡ cond (f (b .one)) 1 0 + cond (f (b .two)) 1 0
+ends-count n f b h =
+    count-split n (λ p. f p && eqb (b .one) p) (λ p. f p && eqb (b .two) p) (λ p. f p && on p b) (λ p l. go p (f p) (eqb (b .one) p) (eqb (b .two) p) refl refl)
+    ∙ omega (arith, count-pick n (b .one) f (h .0), count-pick n (b .two) f (h .1))
   where
-    go : (p : ℕ) → Dec (p ≡ b .one) → Dec (p ≡ b .two) → cond {A = ℕ} (on p b) 1 0 ≡ cond (eqb p (b .one)) 1 0 + cond (eqb p (b .two)) 1 0
-    go p (yes e) (yes f) = absurd (h .2 (sym e ∙ f))
-    go p (yes e) (no f) = simp (eq-eqb p (b .one) e, eq-eqb (b .one) p (sym e), ne-eqb p (b .two) f)
-    go p (no e) (yes f) = simp (ne-eqb p (b .one) e, ne-eqb (b .one) p (λ d. e (sym d)), eq-eqb p (b .two) f, eq-eqb (b .two) p (sym f))
-    go p (no e) (no f) = simp (ne-eqb p (b .one) e, ne-eqb (b .one) p (λ d. e (sym d)), ne-eqb p (b .two) f, ne-eqb (b .two) p (λ d. f (sym d)))
+    go : (p : ℕ) (s t u : Bool) → eqb (b .one) p ≡ t → eqb (b .two) p ≡ u → cond {A = ℕ} (s && (t || u)) 1 0 ≡ cond (s && t) 1 0 + cond (s && u) 1 0
+    go p true true true e f = absurd (h .2 (eqb-true _ _ e ∙ sym (eqb-true _ _ f)))
+    go p true true false e f = refl
+    go p true false u e f = omega arith
+    go p false t u e f = refl
 
 -- every bond is counted at both of its ends
 pub sum-on : (n : ℕ) (bs : List Bond) → ((b : Bond) → List·Memᴰ b bs → Ends n b) → sum (each n (λ p. count (map (on p) bs))) ≡ 2 * length bs
-sum-on n [] h = omega (arith, sum-const n 0)
-sum-on n (b ∷ bs) h =
-    omega (
-      arith,
-      sum-add n (λ p. cond (on p b) 1 0) (λ p. count (map (on p) bs)) (λ p. count (map (on p) (b ∷ bs))) (λ p l. refl),
-      ends-two n b (h b (List·Memᴰ·head refl)),
-      sum-on n bs (λ c m. h c (List·Memᴰ·tail m)),
-    )
+unfolding each
+sum-on n bs h =
+    sum-swap on (upto n) bs
+    ∙ ap sum (map-eq bs (λ b. count (map (λ p. on p b) (upto n))) (λ b. 2) (λ b m. ends-count n (λ p. true) b (h b m)))
+    ∙ sum-map-const bs 2
+    ∙ omega arith

@@ -13,14 +13,15 @@ use lib.ListN.{length, getD, take}
 use borrow.Author.Tests.{eq-eqb, ne-eqb, lt-ltb, le-ltb, ltb-true}
 use Rattle.lists.specs.Upto.{upto, each}
 use Rattle.lists.specs.Tests.{count, some}
-use Rattle.lists.proofs.Booleans.{and-both}
-use Rattle.lists.proofs.Sums.{sum-eq, sum-add, sum-le, count-sum}
-use Rattle.lists.proofs.Counts.{count-eq, count-le, count-split, count-none}
+use Rattle.lists.proofs.Booleans.{and-both, eqb-swap}
+use Rattle.lists.proofs.Sums.{sum-eq, sum-add, sum-le, sum-pick, count-sum}
+use Rattle.lists.proofs.Counts.{count-eq, count-le, count-split, count-none, count-pick, count-only}
+use Rattle.lists.proofs.Passed.{count-take}
+use Rattle.lists.proofs.Members.{getD-mem}
 use Rattle.lists.proofs.Tested.{some-count}
 use Rattle.molecule.specs.Bonds.{Bond, on, joins}
 use Rattle.molecule.specs.Molecule.{Molecule, bonded, neighbours}
 use Rattle.molecule.proofs.Sound.{Sound}
-use Rattle.molecule.proofs.ListLaws.{count-pick, count-only, count-take, sum-pick, mem-getD}
 use Rattle.molecule.proofs.Neighbours.{length-neighbours}
 use Rattle.molecule.proofs.BondLists.{Ends, Between, joins-ends, sum-on}
 use Rattle.molecule.proofs.Judging.{Fits}
@@ -47,7 +48,7 @@ module _ (M : Molecule) (S : Sound M) where
           (simp (eq-eqb p p refl, le-ltb p p (omega arith), and-false)
           (count-eq (M .size) (picked M (on p) p) (after p) (λ b l. simp (eq-eqb p p refl, and-true)) ∙ sym (add-zero _)))
       go (no e) =
-          count-eq (M .size) (picked M (on p) a) (λ b. (bonded M a b && ltb a b) && eqb b p) (λ b l. rw (ne-eqb a p e) (sym (and-assoc (bonded M a b) (ltb a b) (eqb b p))))
+          count-eq (M .size) (picked M (on p) a) (λ b. (bonded M a b && ltb a b) && eqb p b) (λ b l. rw (ne-eqb a p e, eqb-swap b p) (sym (and-assoc (bonded M a b) (ltb a b) (eqb p b))))
           ∙ count-pick (M .size) p (λ b. bonded M a b && ltb a b) h
           ∙ rw (ne-eqb a p e, S .even a p k h) (sym (zero-add _))
 
@@ -124,7 +125,7 @@ module _ (M : Molecule) (S : Sound M) where
       b = getD (bondsOf M) k z
 
       L : Listed M b
-      L = of-bondsOf M b (mem-getD (bondsOf M) k z h)
+      L = of-bondsOf M b (getD-mem (bondsOf M) k z h)
 
       E : Ends (M .size) b
       E = listed-ends M b L

@@ -13,12 +13,12 @@ use Rattle.lists.specs.Upto.{upto, each, sum}
 use Rattle.lists.specs.Tests.{keep, count}
 use Rattle.lists.proofs.Upto.{mem-upto, each-eq, map-each}
 use Rattle.lists.proofs.Kept.{mem-keep, of-keep}
+use Rattle.lists.proofs.Passed.{count-keep}
 use Rattle.lists.proofs.Sums.{sum-eq}
-use Rattle.lists.proofs.Flattened.{of-flatten-map, mem-flatten-map}
+use Rattle.lists.proofs.Flattened.{of-flatten-map, mem-flatten-map, count-flatten, flatten-map-flatten}
 use Rattle.molecule.specs.Bonds.{Bond, joins, codeIn}
 use Rattle.molecule.specs.Molecule.{Molecule, bonded, neighbours}
 use Rattle.molecule.specs.Written.{bondBytes}
-use Rattle.molecule.proofs.ListLaws.{count-keep, count-flatten, flatten-map-flatten}
 use Rattle.molecule.proofs.Neighbours.{mem-neighbours, of-neighbours}
 use Rattle.molecule.proofs.Connected.{Even}
 use Rattle.molecule.proofs.BondLists.{Between, Coded, joins-ends, codeIn-coded}

@@ -6,13 +6,13 @@ use Prim.Native.Nat.{ℕ, _+_, _*_, _<_, _≤_}
 use native.Mathlib.Omega.{arith}
 use lib.ListN.{length, getD, take}
 use Rattle.lists.specs.Upto.{upto, each}
-use Rattle.lists.proofs.Upto.{each-eq}
+use Rattle.lists.proofs.Upto.{each-eq, length-upto, getD-upto, each-take}
+use Rattle.lists.proofs.Flattened.{length-pieces, getD-pieces}
 use Rattle.molecule.specs.Bonds.{Bond}
 use Rattle.molecule.specs.Kinds.{numberOf, kindOfNumber}
 use Rattle.molecule.specs.Layout.{atomsLength, inLayout, atomCount, kindAt, hydrogensAt, bondCount, bondAt, bondsTo}
 use Rattle.molecule.specs.Molecule.{Molecule, kind, hydrogens}
 use Rattle.molecule.specs.Written.{atomBytes, cardBytes}
-use Rattle.molecule.proofs.ListLaws.{length-upto, getD-upto, each-getD, length-pieces, getD-pieces}
 use Rattle.molecule.proofs.Fields.{fields, fields-atoms, fields-bonds, fields-atomsLength, fields-bondsLength, fields-inLayout}
 use Rattle.molecule.proofs.BondsOf.{bondsOf, bytes, bondsOf-bytes}
 
@@ -82,4 +82,4 @@ module _ (M : Molecule) where
   pub card-bondsTo : (k : ℕ) → k ≤ length (bondsOf M) → bondsTo card k ≡ take k (bondsOf M)
   unfolding bondsTo
   card-bondsTo k h =
-      each-eq k (bondAt card) (λ i. getD (bondsOf M) i noBond) (λ i l. card-bondAt i (omega arith)) ∙ each-getD (bondsOf M) k noBond h
+      each-eq k (bondAt card) (λ i. getD (bondsOf M) i noBond) (λ i l. card-bondAt i (omega arith)) ∙ each-take (bondsOf M) k noBond h

@@ -1,8 +1,7 @@
 -- A well-formed card's molecule is sound: what holds of each listed bond holds of the codes, an atom has no more neighbours than listed bonds, and
 -- all atoms together have two for each listed bond.
 use mathlib.Core.Bool.{Bool, true, false, cond}
-use mathlib.Core.List.{List, [], _∷_, map, map-append, List·Memᴰ}
-use mathlib.Core.Logic.{inl, inr}
+use mathlib.Core.List.{List, map, List·Memᴰ}
 use mathlib.Core.Path.{_≡_, refl, _∙_, ap, subst}
 use Prim.Native.Nat.{ℕ, zero, suc, _+_, _<_, _≤_}
 use native.Mathlib.Omega.{arith}
@@ -12,16 +11,17 @@ use borrow.Author.Tests.{eqb-true}
 use Rattle.lists.specs.Upto.{each}
 use Rattle.lists.specs.Tests.{count}
 use Rattle.lists.proofs.Upto.{of-each, length-each}
-use Rattle.lists.proofs.Steps.{each-zero, each-next, count-append}
+use Rattle.lists.proofs.Steps.{each-zero, each-next}
+use Rattle.lists.proofs.Passed.{count-snoc}
 use Rattle.lists.proofs.Sums.{sum-le}
-use Rattle.molecule.specs.Bonds.{Bond, on, codeIn}
+use Rattle.molecule.specs.Bonds.{Bond, on}
 use Rattle.molecule.specs.Molecule.{neighbours}
 use Rattle.molecule.specs.Layout.{atomCount, bondCount, bondAt, bondsTo}
 use Rattle.molecule.specs.Judged.{WellFormed, moleculeOf}
 use Rattle.molecule.proofs.Sound.{Sound}
 use Rattle.molecule.proofs.Neighbours.{length-neighbours}
 use Rattle.molecule.proofs.Connected.{connected-linked}
-use Rattle.molecule.proofs.BondLists.{Ends, Between, Coded, joins-ends, codeIn-swap, codeIn-coded, coded-few, sum-on}
+use Rattle.molecule.proofs.BondLists.{Ends, codeIn-swap, codeIn-le, codeIn-self, coded-few, sum-on}
 use Rattle.molecule.proofs.Judging.{Fits, Checks, well-formed-checks}
 
 module _ (s : List ℕ) (C : Checks s) where
@@ -44,9 +44,7 @@ module _ (s : List ℕ) (C : Checks s) where
       F = C .fits k h
 
       more : count (map (on p) (each (suc k) (bondAt s))) ≡ count (map (on p) (each k (bondAt s))) + cond (on p (bondAt s k)) 1 0
-      more =
-          ap (λ l. count (map (on p) l)) (each-next k (bondAt s)) ∙ ap count (map-append (on p) (each k (bondAt s)) (bondAt s k ∷ []))
-          ∙ count-append (map (on p) (each k (bondAt s))) (on p (bondAt s k) ∷ []) ∙ omega arith
+      more = ap (λ l. count (map (on p) l)) (each-next k (bondAt s)) ∙ count-snoc (on p) (each k (bondAt s)) (bondAt s k)
 
       go : (t u : Bool) → eqb (bondAt s k .one) p ≡ t → eqb (bondAt s k .two) p ≡ u → count (map (on p) (bondsTo s k)) ≤ 6 → count (map (on p) (bondsTo s (suc k))) ≤ 6
       go true u e f ih =
@@ -56,24 +54,6 @@ module _ (s : List ℕ) (C : Checks s) where
           let r : count (map (on p) (bondsTo s k)) < 6 = subst (λ q. count (map (on q) (bondsTo s k)) < 6) (eqb-true _ p f) (F .room-two) in
           rw (more, e, f) (omega arith)
       go false false e f ih = rw (more, e, f) (omega arith)
-
-  code-low : (p q : ℕ) → codeIn bonds p q ≤ 4
-  code-low p q = go (codeIn-coded bonds p q)
-    where
-      go : Coded bonds p q → codeIn bonds p q ≤ 4
-      go (inl w) = omega (arith, w .3, listed (w .0) (w .1) .1)
-      go (inr w) = omega (arith, w .1)
-
-  code-self : (p : ℕ) → codeIn bonds p p ≡ 0
-  code-self p = go (codeIn-coded bonds p p)
-    where
-      same : (b : Bond) → Between p p b → b .one ≡ b .two
-      same b (inl w) = omega arith
-      same b (inr w) = omega arith
-
-      go : Coded bonds p p → codeIn bonds p p ≡ 0
-      go (inl w) = absurd (listed (w .0) (w .1) .0 .2 (same (w .0) (joins-ends p p (w .0) (w .2))))
-      go (inr w) = w .1
 
   degree-on : (a : ℕ) → length (neighbours (moleculeOf s) a) ≤ count (map (on a) bonds)
   unfolding moleculeOf
@@ -90,8 +70,8 @@ module _ (s : List ℕ) (C : Checks s) where
         known = C .known;
         few = C .few;
         hydrogens = C .total;
-        codes = λ a b h k. code-low a b;
-        apart = λ a h. code-self a;
+        codes = λ a b h k. codeIn-le bonds a b 4 (λ c m. listed c m .1);
+        apart = λ a h. codeIn-self bonds a (λ c m. listed c m .0 .2);
         even = λ a b h k. codeIn-swap bonds a b;
         degrees = λ a h. omega (arith, degree-on a, bonds-on (bondCount s) a (omega arith));
         bonds =

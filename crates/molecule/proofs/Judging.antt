@@ -1,5 +1,5 @@
 -- A card is well formed exactly if it passes each of the checks, said as a fact of its own.
-use mathlib.Core.Bool.{Bool, true, false, cond, not, _||_}
+use mathlib.Core.Bool.{true, false, not, _||_}
 use mathlib.Core.List.{List, [], _∷_, map, List·Memᴰ, List·Memᴰ·head, List·Memᴰ·tail, List·Memᴰ·not-nil, List·Memᴰ·cases-cons}
 use mathlib.Core.Logic.{_⊎_, inl, inr, _≢_}
 use mathlib.Core.Path.{_≡_, refl, _∙_, ap}
@@ -9,7 +9,7 @@ use lib.Dec.{eqb, leb, ltb}
 use borrow.Author.Tests.{eqb-false, ltb-true, ltb-false, leb-true, leb-false, ne-eqb, lt-ltb, le-ltb, le-leb, lt-leb, not-false}
 use Rattle.lists.specs.Upto.{upto, each, sum}
 use Rattle.lists.specs.Tests.{count, some}
-use Rattle.lists.proofs.Booleans.{and-both, or-neither}
+use Rattle.lists.proofs.Booleans.{and-both, or-neither, unless, provided}
 use Rattle.lists.proofs.Upto.{mem-upto, of-upto}
 use Rattle.molecule.specs.Kinds.{isKind}
 use Rattle.molecule.specs.Bonds.{Bond, on, joins}
@@ -41,14 +41,6 @@ pub record Checks (s : List ℕ) : Type 0 where
   pub connected : connected (moleculeOf s) ≡ true
 
 -- a fault that is not there
-unless : (c : Bool) (m n : ℕ) → cond c (suc m) n ≡ 0 → (c ≡ false) × (n ≡ 0)
-unless true m n e = absurd (omega arith)
-unless false m n e = (refl, e)
-
-provided : (c : Bool) (m n : ℕ) → cond c n (suc m) ≡ 0 → (c ≡ true) × (n ≡ 0)
-provided true m n e = (refl, e)
-provided false m n e = absurd (omega arith)
-
 orNext-none : (m n : ℕ) → orNext m n ≡ 0 → (m ≡ 0) × (n ≡ 0)
 orNext-none zero n e = (refl, e)
 orNext-none (suc m) n e = absurd (omega arith)

@@ -2,17 +2,17 @@
 use mathlib.Core.Bool.{true}
 use mathlib.Core.List.{List}
 use mathlib.Core.Path.{_≡_, refl}
-use Prim.Native.Nat.{ℕ, _≤_, compare, Ordering, Ordering·lt, Ordering·eq, Ordering·gt}
+use Prim.Native.Nat.{ℕ, _≤_, compare}
 use native.Mathlib.Omega.{arith}
 use lib.Dec.{eqb, isEq}
 use borrow.Author.Tests.{eqb-true}
 use Rattle.lists.specs.Upto.{from, each}
 use Rattle.lists.specs.Tests.{every}
 use Rattle.lists.specs.Order.{lex}
-use Rattle.lists.proofs.Order.{number-order, lex-order}
+use Rattle.lists.proofs.Order.{number-order, lex-order, isEq-true}
 use Rattle.lists.proofs.Tested.{every-true-below}
+use Rattle.lists.proofs.Found.{find-passes}
 use Rattle.molecule.specs.Kinds.{kinds, symbolOf, numberOf, kindOfSymbol, kindOfNumber}
-use Rattle.molecule.proofs.ListLaws.{find-pass}
 
 all-numbers : every (each 25 (λ k. eqb (kindOfNumber (numberOf k)) k)) ≡ true
 unfolding every each from kinds numberOf kindOfNumber
@@ -30,13 +30,8 @@ kindOfSymbol-symbolOf k h = eqb-true _ k (every-true-below 25 (λ i. eqb (kindOf
 
 pub numberOf-kindOfNumber : (z : ℕ) → kindOfNumber z ≤ 24 → numberOf (kindOfNumber z) ≡ z
 unfolding numberOf kindOfNumber kinds
-numberOf-kindOfNumber z h = eqb-true _ z (find-pass (λ e. eqb (e .number) z) kinds _ (omega arith))
-
-is-eq : (o : Ordering) → isEq o ≡ true → o ≡ Ordering·eq
-is-eq Ordering·lt e = cc
-is-eq Ordering·eq e = refl
-is-eq Ordering·gt e = cc
+numberOf-kindOfNumber z h = eqb-true _ z (find-passes (λ e. eqb (e .number) z) kinds _ (omega arith))
 
 pub symbolOf-kindOfSymbol : (s : List ℕ) → kindOfSymbol s ≤ 24 → symbolOf (kindOfSymbol s) ≡ s
 unfolding symbolOf kindOfSymbol kinds
-symbolOf-kindOfSymbol s h = lex-order number-order .same _ s (is-eq _ (find-pass (λ e. isEq (lex compare (e .symbol) s)) kinds _ (omega arith)))
+symbolOf-kindOfSymbol s h = lex-order number-order .same _ s (isEq-true _ (find-passes (λ e. isEq (lex compare (e .symbol) s)) kinds _ (omega arith)))

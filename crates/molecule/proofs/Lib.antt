@@ -1,6 +1,5 @@
 pub mod Open
 mod Examples
-pub mod ListLaws
 pub mod KindsTable
 pub mod Renumberings
 pub mod Neighbours

@@ -11,7 +11,7 @@ use Rattle.lists.specs.Upto.{upto, each}
 use Rattle.lists.specs.Tests.{count}
 use Rattle.lists.proofs.Upto.{mem-upto, of-upto}
 use Rattle.lists.proofs.Kept.{mem-keep, of-keep}
-use Rattle.lists.proofs.Counts.{length-keep}
+use Rattle.lists.proofs.Passed.{length-keep}
 use Rattle.molecule.specs.Molecule.{Molecule, bonded, neighbours}
 
 pub mem-neighbours : (M : Molecule) (a b : ℕ) → b < M .size → M .code a b ≢ 0 → List·Memᴰ b (neighbours M a)

@@ -1,7 +1,7 @@
 -- Apart and Again: a name is the writing of the canonical molecule, and reading it gives that molecule renumbered. So equal names come from one
 -- molecule read, and the card read back is a renumbering of the card named, which gets the same answer.
 use mathlib.Core.List.{List}
-use mathlib.Core.Path.{_≡_, refl, sym, _∙_, ap, subst}
+use mathlib.Core.Path.{_≡_, sym, _∙_, ap, subst}
 use Prim.Native.Nat.{ℕ, _≤_}
 use native.Mathlib.Omega.{arith}
 use borrow.Author.Tests.{le-ltb}

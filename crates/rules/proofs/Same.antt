@@ -1,8 +1,8 @@
 -- Same: renumberings have one leaf count and one canonical molecule, so that the name, the canonical card and every refusal are decided by what is
 -- unchanged; class marks go along with their atoms.
 use mathlib.Core.Bool.{Bool, true, false, cond}
-use mathlib.Core.List.{List, [], _∷_}
-use mathlib.Core.Path.{_≡_, refl, sym, _∙_, ap, ap₂}
+use mathlib.Core.List.{List}
+use mathlib.Core.Path.{_≡_, refl, sym, _∙_, ap₂}
 use Prim.Native.Nat.{ℕ, _<_}
 use native.Mathlib.Omega.{arith}
 use lib.Dec.{ltb}
@@ -21,7 +21,7 @@ use Rattle.classes.proofs.Renumbered.{leafCount-renumbered, classMark-renumbere
 use Rattle.classes.proofs.Canonical.{canonical-unchanged}
 use Rattle.sling.proofs.Alike.{name-alike}
 use Rattle.rules.specs.Answers.{Answer, refused, accepted, inRoom, ofCard, nameOut, canonicalOut, marksOut, nameOf, canonicalOf, marksOf}
-use Rattle.rules.specs.Promises.{SameMarks, Same, AlwaysSame}
+use Rattle.rules.specs.Promises.{SameMarks, AlwaysSame}
 use Rattle.rules.proofs.Answered.{within, card-answered}
 
 module _ {σ : ℕ → ℕ} {M M′ : Molecule} (E : Renumbered σ M M′) where

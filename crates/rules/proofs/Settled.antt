@@ -1,25 +1,21 @@
 -- Settled and Kept: a contract leaves no choice, since it says each part of a result; and what is lent keeps its length, and on a refusal its bytes,
 -- since a refusal has no bytes to write and an acceptance has them in the room.
 use mathlib.Core.Bool.{Bool, true, false, cond}
-use mathlib.Core.List.{List, [], _∷_}
-use mathlib.Core.Logic.{_≢_}
+use mathlib.Core.List.{List}
 use mathlib.Core.Path.{_≡_, refl, sym, _∙_}
 use Prim.Native.Nat.{ℕ, zero, suc, _≤_}
 use native.Mathlib.Omega.{arith}
 use borrow.Author.Tests.{ltb-false}
-use lib.Dec.{ltb, eqb}
+use lib.Dec.{ltb}
 use lib.ListN.{length, drop, length-append, length-drop}
 use Rattle.molecule.specs.Molecule.{Molecule}
 use Rattle.molecule.specs.Judged.{moleculeOf, cardFault}
 use Rattle.molecule.specs.Written.{cardBytes}
 use Rattle.classes.specs.Refining.{rule1}
 use Rattle.classes.specs.Numberings.{leafCount}
-use Rattle.sling.specs.Scanned.{Token, tok, bad, tokens}
-use Rattle.sling.specs.Reading.{State, start, after}
-use Rattle.sling.specs.Faults.{Outcome, stopped, finished, itemFault, judged, run}
-use Rattle.sling.specs.Folded.{folded, loneH, ended, readText, mostText}
-use Rattle.rules.specs.Answers.{Answer, refused, accepted, inRoom, atExit, numbered, unlessFaulty, ofCard, nameOut, canonicalOut, marksOut, nameOf, cardOf, canonicalOf, marksOf, readInto}
-use Rattle.rules.specs.Contracts.{Result}
+use Rattle.sling.specs.Faults.{Outcome, stopped, finished}
+use Rattle.sling.specs.Folded.{folded, readText}
+use Rattle.rules.specs.Answers.{refused, accepted, inRoom, atExit, numbered, unlessFaulty, ofCard, nameOut, canonicalOut, marksOut, nameOf, cardOf, canonicalOf, marksOf, readInto}
 use Rattle.rules.specs.Promises.{Settled, KeptBy, AlwaysKept}
 use Rattle.rules.proofs.Stopped.{Proper, readText-proper}
 

@@ -1,9 +1,7 @@
 -- What is worked out on a view of the card's molecule, and on a view of the view's canonical molecule, is what the answers ask for: the law that a
 -- program's steps are put together by.
-use mathlib.Core.List.{List}
 use mathlib.Core.Path.{_≡_, sym, _∙_, ap}
-use Prim.Native.Nat.{ℕ, _<_}
-use lib.ListN.{length}
+use Prim.Native.Nat.{_<_}
 use Rattle.lists.specs.Upto.{each}
 use Rattle.lists.proofs.Upto.{each-eq}
 use Rattle.molecule.specs.Molecule.{Molecule}

@@ -1,24 +1,23 @@
 -- Whole: every marking of the tree is a ranking of all atoms, so that the laws of refining and of leaves hold for it, with no bound to be seen.
 use mathlib.Core.Bool.{Bool, true, false, cond}
-use mathlib.Core.List.{List, [], _∷_, List·Memᴰ, List·Memᴰ·not-nil}
-use mathlib.Core.Path.{_≡_, refl, sym, _∙_, ap, subst}
+use mathlib.Core.List.{List·Memᴰ, List·Memᴰ·not-nil}
+use mathlib.Core.Path.{_≡_, sym, _∙_, subst}
 use Prim.Native.Nat.{ℕ, zero, suc, _*_, _<_}
 use native.Mathlib.Omega.{arith}
-use lib.ListN.{length, getD}
+use lib.ListN.{length}
 use lib.Seq.{ext-getD}
-use Rattle.lists.specs.Upto.{each}
 use Rattle.lists.proofs.Upto.{length-each}
 use Rattle.molecule.specs.Molecule.{Molecule}
 use Rattle.classes.specs.Markings.{Marking, at, ranked}
 use Rattle.classes.specs.Refining.{Rule, pass, unchanged, refine, refined}
-use Rattle.classes.specs.Numberings.{holding, shared, ahead}
+use Rattle.classes.specs.Numberings.{shared, ahead}
 use Rattle.classes.specs.Tables.{holder}
 use Rattle.classes.proofs.Rankings.{Ranking, ranked-ranking, ahead-refines, refined-refines}
 use Rattle.classes.proofs.Refined.{refined-fixed}
 use Rattle.classes.proofs.Shared.{of-holding}
 use Rattle.classes.proofs.Complete.{holder-below, at-holder}
 use Rattle.classes.proofs.Leaves.{leaves-step, numbering-complete, numbering-some}
-use Rattle.rules.specs.Promises.{InTree, root, child, Whole, AlwaysWhole}
+use Rattle.rules.specs.Promises.{InTree, root, child, AlwaysWhole}
 
 refine-length : (R : Rule) (M : Molecule) (k : ℕ) (m : Marking) → length m ≡ M .size → length (refine R M k m) ≡ M .size
 unfolding refine

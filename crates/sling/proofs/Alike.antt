@@ -10,12 +10,12 @@ use Rattle.lists.specs.Upto.{upto}
 use Rattle.lists.specs.Tests.{keep}
 use Rattle.lists.proofs.Upto.{of-upto}
 use Rattle.lists.proofs.Kept.{keep-eq}
+use Rattle.lists.proofs.All.{All, all-map}
 use Rattle.molecule.specs.Molecule.{Molecule, bonded, neighbours}
 use Rattle.molecule.specs.Renumbering.{Renumbered}
 use Rattle.sling.specs.Items.{atom}
 use Rattle.sling.specs.Walk.{kindAt, hydrogensAt, neighboursAt, codeAt, Written, serve, put, putHs, trace, traces, finish, first, written}
 use Rattle.sling.specs.Printed.{bytes, nameBytes}
-use Rattle.sling.proofs.ListLaws.{All, all-map}
 use Rattle.sling.proofs.Strokes.{Rank, near-all}
 
 module _ (W W′ : Molecule) (E : Renumbered (λ a. a) W W′) where

@@ -10,11 +10,12 @@ use lib.Seq.{getD-append-seam}
 use lib.Dec.{eqb}
 use borrow.Author.Tests.{eq-eqb, ne-eqb, le-ltb, lt-leb}
 use Rattle.lists.specs.Tests.{count, some}
+use Rattle.lists.proofs.All.{All}
+use Rattle.lists.proofs.Passed.{count-snoc}
 use Rattle.molecule.specs.Bonds.{Bond, on, joins}
 use Rattle.sling.specs.Items.{Item, at, atom, reference, ring}
 use Rattle.sling.specs.Reading.{State, goal, after, isH}
 use Rattle.sling.specs.Faults.{draws, codeOf, wrongH, brokenH}
-use Rattle.sling.proofs.ListLaws.{All, count-snoc}
 use Rattle.sling.proofs.Walks.{Marked, Clear}
 use Rattle.sling.proofs.Tidy.{bond, Proper, none-on}
 

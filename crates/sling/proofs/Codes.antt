@@ -1,6 +1,6 @@
 -- The code that is read between the places of two ranks is the molecule's: a bond traced has the code of its ranks, and all are traced.
 use mathlib.Core.Path.{_≡_, refl, sym, ap, _∙_}
-use mathlib.Core.Bool.{Bool, true, false}
+use mathlib.Core.Bool.{Bool, true, false, true≢false}
 use mathlib.Core.List.{List, [], _∷_, _++_, map}
 use mathlib.Core.Logic.{_⊎_, inl, inr, ⊎-elim, _≢_}
 use Prim.Native.Nat.{ℕ, zero, suc, _<_}
@@ -10,12 +10,14 @@ use native.Mathlib.Omega.{arith}
 use lib.ListN.{length, getD, length-append, List·getD-append}
 use lib.Seq.{getD-append-seam}
 use Rattle.lists.specs.Tests.{some}
+use Rattle.lists.proofs.Tested.{some-pass}
+use Rattle.lists.proofs.All.{All, all-map, all-snoc}
 use Rattle.molecule.specs.Bonds.{Bond, joins, codeIn}
 use Rattle.molecule.specs.Molecule.{Molecule}
 use Rattle.molecule.proofs.Sound.{Sound}
+use Rattle.molecule.proofs.BondLists.{Coded, joins-ends, codeIn-coded}
 use Rattle.sling.specs.Walk.{codeAt, placeIn, isTraced, written}
-use Rattle.sling.proofs.ListLaws.{All, all-map, all-snoc}
-use Rattle.sling.proofs.Tidy.{bond, joins-ends}
+use Rattle.sling.proofs.Tidy.{bond}
 use Rattle.sling.proofs.Places.{On, rank-at}
 use Rattle.sling.proofs.Strokes.{Rank, Keeps}
 use Rattle.sling.proofs.Finished.{written-keeps, all-on, all-traced}
@@ -73,13 +75,11 @@ code-exact W l p q np nq ev (b ∷ bs) a e = pick (joins p q b) refl (code-exact
     pick false j f = simp j (f (simp j at e))
 
 pub code-none : (p q : ℕ) (bs : List Bond) → some (map (joins p q) bs) ≡ false → codeIn bs p q ≡ 0
-unfolding some
-code-none p q [] e = refl
-code-none p q (b ∷ bs) e = pick (joins p q b) refl (code-none p q bs)
+code-none p q bs e = pick (codeIn-coded bs p q)
   where
-    pick : (y : Bool) → joins p q b ≡ y → (some (map (joins p q) bs) ≡ false → codeIn bs p q ≡ 0) → codeIn (b ∷ bs) p q ≡ 0
-    pick true j f = let z = simp j at e in cc
-    pick false j f = simp j (f (simp j at e))
+    pick : Coded bs p q → codeIn bs p q ≡ 0
+    pick (inl w) = absurd (true≢false (sym (some-pass (joins p q) bs (w .0) (w .1) (w .2)) ∙ e))
+    pick (inr w) = w .1
 
 code-even : (W : Molecule) → Sound W → (r s : ℕ) → Rank W r → Rank W s → codeAt W r s ≡ codeAt W s r
 code-even W S zero s q p = absurd (not-suc-le-zero (q .low))

@@ -4,9 +4,9 @@ use mathlib.Core.Bool.{Bool, true, false}
 use mathlib.Core.List.{List, [], _∷_}
 use Prim.Native.Nat.{ℕ, zero, suc}
 use native.Mathlib.Nat.{not-suc-le-zero}
+use Rattle.lists.proofs.All.{All}
 use Rattle.molecule.specs.Molecule.{Molecule}
 use Rattle.sling.specs.Walk.{hydrogensAt, neighboursAt, Written, isWritten, isTraced, trace, traces, finish}
-use Rattle.sling.proofs.ListLaws.{All}
 use Rattle.sling.proofs.Strokes.{Rank, Near, withHs, putHs-keeps, strokes-keep, trace-done, trace-back, trace-onward, near-all}
 use Rattle.sling.proofs.Ready.{Ready, ready-keeps, off, next-ready}
 use Rattle.sling.proofs.Finished.{trace-closed, finish-closed}

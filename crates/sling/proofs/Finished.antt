@@ -11,11 +11,11 @@ use lib.Dec.{ltb}
 use borrow.Author.Tests.{lt-ltb, ltb-true}
 use Rattle.lists.specs.Tests.{some}
 use Rattle.lists.proofs.Counts.{count-fewer}
+use Rattle.lists.proofs.All.{All, all-map, all-mem}
 use Rattle.molecule.specs.Molecule.{Molecule}
 use Rattle.molecule.proofs.Neighbours.{mem-neighbours}
 use Rattle.molecule.proofs.Sound.{Linked}
 use Rattle.sling.specs.Walk.{hydrogensAt, neighboursAt, codeAt, Written, placeIn, isWritten, isTraced, trace, traces, finish, first, written}
-use Rattle.sling.proofs.ListLaws.{All, all-map, all-mem}
 use Rattle.sling.proofs.Tidy.{joined-last}
 use Rattle.sling.proofs.Places.{On, place-more, on-more, place-new, on-new, on-cases}
 use Rattle.sling.proofs.Strokes.{trace-done, trace-back, trace-onward, putHs-old, near-all, Rank, Near, withHs, nextAt, Strokes, here, onward, back, strokes-trans, Keeps, putHs-keeps, strokes-keep, keeps-put}

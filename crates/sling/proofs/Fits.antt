@@ -1,28 +1,23 @@
 -- A molecule within the limits, and its counts: they do not change when it is renumbered, and for the molecule folded from a reader they are
 -- the reader's own.
-use mathlib.Core.Path.{_≡_, refl, sym, ap, _∙_, subst}
+use mathlib.Core.Path.{_≡_, refl, ap, subst}
 use mathlib.Core.Bool.{Bool, true, false, not, _&&_}
-use mathlib.Core.List.{List}
 use Prim.Native.Nat.{ℕ, _<_, _≤_}
 use native.Mathlib.Omega.{arith}
 use lib.ListN.{length, getD}
-use lib.Dec.{eqb}
 use Rattle.lists.specs.Upto.{upto, each, sum}
-use Rattle.lists.specs.Tests.{count}
 use Rattle.lists.proofs.Booleans.{and-both}
-use Rattle.lists.proofs.Counts.{length-keep}
 use Rattle.lists.proofs.Kept.{mem-keep}
-use Rattle.lists.proofs.Permutation.{count-perm, sum-perm}
-use Rattle.lists.proofs.Shuffled.{each-perm, shuffle-onto}
 use Rattle.lists.proofs.Upto.{mem-upto}
+use Rattle.lists.proofs.Passed.{count-map-le}
+use Rattle.lists.proofs.Members.{mem-place}
 use Rattle.molecule.specs.Bonds.{on}
-use Rattle.molecule.specs.Molecule.{Molecule, hydrogens, bonded, neighbours}
+use Rattle.molecule.specs.Molecule.{Molecule, hydrogens, neighbours}
 use Rattle.molecule.specs.Renumbering.{Renumbered}
 use Rattle.molecule.proofs.Sound.{Sound}
+use Rattle.molecule.proofs.Alike.{over, hydrogens-along, degree-along, sum-along}
 use Rattle.sling.specs.Reading.{State, isH, toH, hydrogensOn, bondsOn}
 use Rattle.sling.specs.Folded.{heavyPlaces, folded, loneH}
-use Rattle.sling.proofs.ListLaws.{count-map-le}
-use Rattle.sling.proofs.Counting.{mem-getD}
 use Rattle.sling.proofs.Tidy.{Tidy, heavy-within}
 use Rattle.sling.proofs.Folds.{folded-size, folded-degree, folded-bonds, folded-hydrogens}
 use Rattle.sling.proofs.Limits.{Room}
@@ -37,44 +32,22 @@ pub record Fits (M : Molecule) : Type 0 where
 pub sound-fits : (M : Molecule) → Sound M → Fits M
 sound-fits M S = record { atoms = S .atoms; hydrogens = S .hydrogens; bonds = S .bonds; few = S .few; degrees = S .degrees }
 
-module _ {σ : ℕ → ℕ} {M M′ : Molecule} (E : Renumbered σ M M′) where
-  sum-along : (f f′ : ℕ → ℕ) → ((a : ℕ) → a < M .size → f′ (σ a) ≡ f a) → sum (each (M′ .size) f′) ≡ sum (each (M .size) f)
-  sum-along f f′ h = ap (λ (n : ℕ). sum (each n f′)) (E .size) ∙ sum-perm (each-perm (E .shuffle) f f′ h)
-
-  hydrogens-along : (a : ℕ) → a < M .size → hydrogens M′ (σ a) ≡ hydrogens M a
-  hydrogens-along a h = ap (λ (l : List ℕ). getD l 1 0) (E .label a h)
-
-  degree-along : (a : ℕ) → a < M .size → length (neighbours M′ (σ a)) ≡ length (neighbours M a)
-  unfolding neighbours each
-  degree-along a h =
-      length-keep (bonded M′ (σ a)) (upto (M′ .size))
-      ∙ ap (λ (n : ℕ). count (each n (bonded M′ (σ a)))) (E .size)
-      ∙ count-perm (each-perm (E .shuffle) (bonded M a) (bonded M′ (σ a)) (λ b k. ap (λ (c : ℕ). not (eqb c 0)) (E .code a b h k)))
-      ∙ sym (length-keep (bonded M a) (upto (M .size)))
-
-  -- a bound on each atom of M is one on each atom of M′
-  bound-along : (f f′ : ℕ → ℕ) (m : ℕ) → ((a : ℕ) → a < M .size → f′ (σ a) ≡ f a) → ((a : ℕ) → a < M .size → f a ≤ m)
-      → (b : ℕ) → b < M′ .size → f′ b ≤ m
-  bound-along f f′ m e h b k =
-      let w = shuffle-onto (E .shuffle) b (omega (arith, E .size)) in
-      omega (arith, ap f′ (w .2), e (w .0) (w .1), h (w .0) (w .1))
-
-  pub fits-along : Fits M → Fits M′
-  fits-along F =
-      record {
-        atoms = omega (arith, E .size, F .atoms);
-        hydrogens = omega (arith, sum-along (hydrogens M) (hydrogens M′) hydrogens-along, F .hydrogens);
-        bonds = omega (arith, sum-along (λ a. length (neighbours M a)) (λ a. length (neighbours M′ a)) degree-along, F .bonds);
-        few = bound-along (hydrogens M) (hydrogens M′) 4 hydrogens-along (F .few);
-        degrees = bound-along (λ a. length (neighbours M a)) (λ a. length (neighbours M′ a)) 6 degree-along (F .degrees);
-      }
+pub fits-along : {σ : ℕ → ℕ} {M M′ : Molecule} → Renumbered σ M M′ → Fits M → Fits M′
+fits-along {M = M} {M′ = M′} E F =
+    record {
+      atoms = omega (arith, E .size, F .atoms);
+      hydrogens = omega (arith, sum-along E (hydrogens M) (hydrogens M′) (hydrogens-along E), F .hydrogens);
+      bonds = omega (arith, sum-along E (λ a. length (neighbours M a)) (λ a. length (neighbours M′ a)) (degree-along E), F .bonds);
+      few = over E (λ a. hydrogens M′ a ≤ 4) (λ a h. omega (arith, hydrogens-along E a h, F .few a h));
+      degrees = over E (λ a. length (neighbours M′ a) ≤ 6) (λ a h. omega (arith, degree-along E a h, F .degrees a h));
+    }
 
 -- the atom at a heavy place
 pub atom-at : (st : State) (p : ℕ) → isH st p ≡ false → (a : ℕ) × (a < folded st .size) × (getD (heavyPlaces st) a 0 ≡ p)
 unfolding folded heavyPlaces
 atom-at st p e =
     let p-in = mem-upto (length (st .kinds)) p (heavy-within (st .kinds) p e) in
-    mem-getD (heavyPlaces st) p 0 (mem-keep (λ q. not (isH st q)) (upto (length (st .kinds))) p p-in (ap not e))
+    mem-place (heavyPlaces st) p 0 (mem-keep (λ q. not (isH st q)) (upto (length (st .kinds))) p p-in (ap not e))
 
 module _ (st : State) (t : Tidy (st .kinds) (st .bonds)) (lone : loneH st ≡ false) where
   pub room-fits : Room st → Fits (folded st)
@@ -100,9 +73,9 @@ module _ (st : State) (t : Tidy (st .kinds) (st .bonds)) (lone : loneH st ≡ fa
       }
     where
       hs : (p : ℕ) (b : Bool) → isH st p ≡ b → hydrogensOn st p ≤ 4
-      hs p true e = omega (arith, count-map-le (λ b. on p b && toH st b) (on p) (λ b z. and-both (on p b) _ z .0) (st .bonds), t .leaf p e)
+      hs p true e = omega (arith, count-map-le (st .bonds) (λ b. on p b && toH st b) (on p) (λ b m z. and-both (on p b) _ z .0), t .leaf p e)
       hs p false e = let w = atom-at st p e in subst (λ (q : ℕ). hydrogensOn st q ≤ 4) (w .2) (F .few (w .0) (w .1))
 
       bs : (p : ℕ) (b : Bool) → isH st p ≡ b → bondsOn st p ≤ 6
-      bs p true e = omega (arith, count-map-le (λ b. on p b && not (toH st b)) (on p) (λ b z. and-both (on p b) _ z .0) (st .bonds), t .leaf p e)
+      bs p true e = omega (arith, count-map-le (st .bonds) (λ b. on p b && not (toH st b)) (on p) (λ b m z. and-both (on p b) _ z .0), t .leaf p e)
       bs p false e = let w = atom-at st p e in subst (λ (q : ℕ). bondsOn st q ≤ 6) (w .2) (omega (arith, folded-degree st t (w .0) (w .1), F .degrees (w .0) (w .1)))

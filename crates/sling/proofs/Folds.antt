@@ -5,6 +5,7 @@ use mathlib.Core.Bool.{Bool, true, false, cond, not, _&&_, _||_, and-false, and-
 use mathlib.Core.List.{List, [], _∷_, map}
 use mathlib.Core.Logic.{⊎-elim}
 use Prim.Native.Nat.{ℕ, zero, suc, _+_, _*_, _<_}
+use native.Mathlib.Nat.{mul-one}
 use native.Mathlib.Omega.{arith}
 use lib.ListN.{length, getD}
 use lib.Dec.{eqb}
@@ -12,31 +13,21 @@ use borrow.Author.Tests.{eq-eqb, ne-eqb, eqb-true, eqb-false, not-true}
 use Rattle.lists.specs.Upto.{upto, each, sum}
 use Rattle.lists.specs.Tests.{keep, count, some}
 use Rattle.lists.proofs.Booleans.{or-neither}
-use Rattle.lists.proofs.Sums.{sum-eq, count-sum}
-use Rattle.lists.proofs.Kept.{map-eq, of-keep}
-use Rattle.lists.proofs.Upto.{of-upto}
-use Rattle.lists.proofs.Counts.{count-none, count-split, length-keep}
+use Rattle.lists.proofs.Sums.{sum-eq, sum-map-add, sum-map-const, count-sum, sum-swap}
+use Rattle.lists.proofs.Kept.{of-keep}
+use Rattle.lists.proofs.Upto.{of-upto, each-getD}
+use Rattle.lists.proofs.Counts.{count-none, count-pick}
+use Rattle.lists.proofs.Members.{map-eq, getD-mem}
+use Rattle.lists.proofs.Passed.{length-keep, count-not, count-map-le, count-keep}
+use Rattle.lists.proofs.All.{All, map-all}
+use Rattle.lists.proofs.Tested.{some-true-count, some-one}
 use Rattle.molecule.specs.Bonds.{Bond, on, joins, codeIn}
 use Rattle.molecule.specs.Molecule.{hydrogens, bonded, neighbours}
+use Rattle.molecule.proofs.BondLists.{joins-ends, ends-count}
 use Rattle.sling.specs.Reading.{State, isH, toH, hydrogensOn, bondsOn}
 use Rattle.sling.specs.Faults.{heavyAtoms, hydrogenAtoms, heavyBonds}
 use Rattle.sling.specs.Folded.{heavyPlaces, folded, loneH}
-use Rattle.sling.proofs.ListLaws.{All, map-all, count-not, count-map-le, count-keep, some-counted, some-one}
-use Rattle.sling.proofs.Counting.{getD-mem, sum-swap, count-each-only, each-getD}
-use Rattle.sling.proofs.Tidy.{Proper, Tidy, joins-ends, first-joined, Joined}
-
--- the places that pass a test and are an end of a bond
-ends-count : (n : ℕ) (f : ℕ → Bool) (b : Bond) → b .one < n → b .two < n → (b .one ≡ b .two → ⊥)
-    → count (each n (λ p. f p && on p b)) ≡ cond (f (b .one)) 1 0 + cond (f (b .two)) 1 0
-ends-count n f b h k ne =
-    count-split n (λ p. f p && eqb (b .one) p) (λ p. f p && eqb (b .two) p) (λ p. f p && on p b) (λ p l. pick p (f p) (eqb (b .one) p) (eqb (b .two) p) refl refl)
-    ∙ omega (arith, count-each-only n (b .one) f h, count-each-only n (b .two) f k)
-  where
-    pick : (p : ℕ) (x y z : Bool) → eqb (b .one) p ≡ y → eqb (b .two) p ≡ z → cond {A = ℕ} (x && (y || z)) 1 0 ≡ cond (x && y) 1 0 + cond (x && z) 1 0
-    pick p true true true e f = absurd (ne (eqb-true _ _ e ∙ sym (eqb-true _ _ f)))
-    pick p true true false e f = refl
-    pick p true false z e f = omega arith
-    pick p false y z e f = refl
+use Rattle.sling.proofs.Tidy.{Proper, Tidy, first-joined, Joined}
 
 -- of a bond that is not between two H: how many of its ends are H, and how many are not, if it is to an H or if it is not
 one-heavy : (x y : Bool) → (x && y) ≡ false → (x || y) ≡ true → cond {A = ℕ} (not x) 1 0 + cond (not y) 1 0 ≡ 1
@@ -61,7 +52,7 @@ module _ (st : State) (b : Bond) (g : Proper (st .kinds) b) where
       pick : (x : Bool) → toH st b ≡ x → count (each (length (st .kinds)) (λ p. not (isH st p) && (on p b && toH st b))) ≡ cond (toH st b) 1 0
       pick true e =
           simp (e, and-true)
-          (ends-count (length (st .kinds)) (λ p. not (isH st p)) b (g .one) (g .two) (g .apart) ∙ one-heavy (isH st (b .one)) (isH st (b .two)) (g .heavy) e)
+          (ends-count (length (st .kinds)) (λ p. not (isH st p)) b (g .one, g .two, g .apart) ∙ one-heavy (isH st (b .one)) (isH st (b .two)) (g .heavy) e)
       pick false e = simp (e, and-false) (count-none (length (st .kinds)) (λ p. false) (λ p l. refl))
 
   -- heavy ends of another bond
@@ -72,11 +63,11 @@ module _ (st : State) (b : Bond) (g : Proper (st .kinds) b) where
       pick true e = simp (e, and-false) (count-none (length (st .kinds)) (λ p. false) (λ p l. refl))
       pick false e =
           simp (e, and-true)
-          (ends-count (length (st .kinds)) (λ p. not (isH st p)) b (g .one) (g .two) (g .apart) ∙ two-heavy (isH st (b .one)) (isH st (b .two)) e)
+          (ends-count (length (st .kinds)) (λ p. not (isH st p)) b (g .one, g .two, g .apart) ∙ two-heavy (isH st (b .one)) (isH st (b .two)) e)
 
   -- ends that are H
   hs-ends : count (each (length (st .kinds)) (λ p. isH st p && on p b)) ≡ cond (toH st b) 1 0
-  hs-ends = ends-count (length (st .kinds)) (isH st) b (g .one) (g .two) (g .apart) ∙ one-h (isH st (b .one)) (isH st (b .two)) (g .heavy)
+  hs-ends = ends-count (length (st .kinds)) (isH st) b (g .one, g .two, g .apart) ∙ one-h (isH st (b .one)) (isH st (b .two)) (g .heavy)
 
   -- heavy places that b joins with a heavy place p
   other-end : (p : ℕ) → isH st p ≡ false → count (each (length (st .kinds)) (λ q. not (isH st q) && joins p q b)) ≡ cond (on p b && not (toH st b)) 1 0
@@ -88,11 +79,11 @@ module _ (st : State) (b : Bond) (g : Proper (st .kinds) b) where
       pick true false e f =
           let y : b .one ≡ p = eqb-true _ _ e in
           let z : isH st (b .one) ≡ false = rw y h in
-          simp (e, f, z, and-false, or-false) (count-each-only (length (st .kinds)) (b .two) (λ q. not (isH st q)) (g .two))
+          simp (e, f, z, and-false, or-false) (count-pick (length (st .kinds)) (b .two) (λ q. not (isH st q)) (g .two))
       pick false true e f =
           let y : b .two ≡ p = eqb-true _ _ f in
           let z : isH st (b .two) ≡ false = rw y h in
-          simp (e, f, z, and-true, or-false) (count-each-only (length (st .kinds)) (b .one) (λ q. not (isH st q)) (g .one))
+          simp (e, f, z, and-true, or-false) (count-pick (length (st .kinds)) (b .one) (λ q. not (isH st q)) (g .one))
       pick false false e f = simp (e, f, and-false) (count-none (length (st .kinds)) (λ q. false) (λ q l. refl))
 
 -- a count over places of a count over bonds, taken by bonds
@@ -126,11 +117,6 @@ pub second : (ks : List ℕ) (bs : List Bond) → (length bs ≡ 0 → ⊥) → 
 second ks [] n a = absurd (n refl)
 second ks (b ∷ bs) n a = let x = a .0 .one in let y = a .0 .two in let d : b .one ≡ b .two → ⊥ = a .0 .apart in omega arith
 
-sum-ones : (l : List ℕ) → sum (map (λ p. 1) l) ≡ length l
-unfolding sum
-sum-ones [] = refl
-sum-ones (p ∷ l) = omega (arith, sum-ones l)
-
 module _ (st : State) (t : Tidy (st .kinds) (st .bonds)) where
   -- a heavy atom has as many neighbours as heavy bonds on its place
   near-count : (p : ℕ) → isH st p ≡ false → count (map (λ q. not (eqb (codeIn (st .bonds) p q) 0)) (heavyPlaces st)) ≡ bondsOn st p
@@ -146,7 +132,7 @@ module _ (st : State) (t : Tidy (st .kinds) (st .bonds)) where
   unfolding folded heavyPlaces each
   folded-size =
       length-keep (λ p. not (isH st p)) (upto (length (st .kinds)))
-      ∙ ap count (each-getD (λ k. not (eqb k 0)) 0 (st .kinds))
+      ∙ ap count (each-getD (λ k. not (eqb k 0)) (st .kinds) 0)
 
   -- the place of an atom of the molecule is heavy
   pub place-heavy : (a : ℕ) → a < folded st .size → isH st (getD (heavyPlaces st) a 0) ≡ false
@@ -157,19 +143,17 @@ module _ (st : State) (t : Tidy (st .kinds) (st .bonds)) where
   unfolding folded neighbours each
   folded-degree a h =
       length-keep (bonded (folded st) a) (upto (folded st .size))
-      ∙ ap count (each-getD (λ q. not (eqb (codeIn (st .bonds) (getD (heavyPlaces st) a 0) q) 0)) 0 (heavyPlaces st))
+      ∙ ap count (each-getD (λ q. not (eqb (codeIn (st .bonds) (getD (heavyPlaces st) a 0) q) 0)) (heavyPlaces st) 0)
       ∙ near-count (getD (heavyPlaces st) a 0) (place-heavy a h)
 
   double : (f : Bond → Bool) (bs : List Bond) → sum (map (λ b. 2 * cond (f b) 1 0) bs) ≡ 2 * count (map f bs)
-  unfolding sum
-  double f [] = refl
-  double f (b ∷ bs) = omega (arith, double f bs)
+  double f bs = omega (arith, count-sum f bs, sum-map-add bs (λ b. cond (f b) 1 0) (λ b. cond (f b) 1 0) (λ b. 2 * cond (f b) 1 0) (λ b m. omega arith))
 
   pub folded-bonds : sum (each (folded st .size) (λ a. length (neighbours (folded st) a))) ≡ 2 * heavyBonds st
   unfolding folded heavyPlaces
   folded-bonds =
       sum-eq (folded st .size) _ (λ a. bondsOn st (getD (heavyPlaces st) a 0)) folded-degree
-      ∙ ap sum (each-getD (bondsOn st) 0 (heavyPlaces st))
+      ∙ ap sum (each-getD (bondsOn st) (heavyPlaces st) 0)
       ∙ by-bonds st (λ p. not (isH st p)) (λ p b. on p b && not (toH st b)) (λ b. 2 * cond (not (toH st b)) 1 0) (λ b g. heavy-ends st b g) (t .proper)
       ∙ double (λ b. not (toH st b)) (st .bonds)
 
@@ -177,16 +161,16 @@ module _ (st : State) (t : Tidy (st .kinds) (st .bonds)) where
   h-bonds : sum (each (folded st .size) (hydrogens (folded st))) ≡ count (map (toH st) (st .bonds))
   unfolding folded heavyPlaces
   h-bonds =
-      ap sum (each-getD (hydrogensOn st) 0 (heavyPlaces st))
+      ap sum (each-getD (hydrogensOn st) (heavyPlaces st) 0)
       ∙ by-bonds st (λ p. not (isH st p)) (λ p b. on p b && toH st b) (λ b. cond (toH st b) 1 0) (λ b g. h-ends st b g) (t .proper)
       ∙ sym (count-sum (toH st) (st .bonds))
 
   -- an H has exactly one bond, but for an H alone
   joined-on : (c p : ℕ) → Joined (st .bonds) c p → (0 < count (map (on c) (st .bonds))) × (0 < count (map (on p) (st .bonds)))
   joined-on c p e =
-      let k : 0 < count (map (joins c p) (st .bonds)) = some-counted _ e in
-      let atC = count-map-le (joins c p) (on c) (λ b z. end-of c p b z .0) (st .bonds) in
-      let atP = count-map-le (joins c p) (on p) (λ b z. end-of c p b z .1) (st .bonds) in
+      let k : 0 < count (map (joins c p) (st .bonds)) = some-true-count _ e in
+      let atC = count-map-le (st .bonds) (joins c p) (on c) (λ b m z. end-of c p b z .0) in
+      let atP = count-map-le (st .bonds) (joins c p) (on p) (λ b m z. end-of c p b z .1) in
       omega arith
 
   pub h-once : loneH st ≡ false → (p : ℕ) → p < length (st .kinds) → isH st p ≡ true → count (map (on p) (st .bonds)) ≡ 1
@@ -205,9 +189,10 @@ module _ (st : State) (t : Tidy (st .kinds) (st .bonds)) where
       ∙ ap sum (map-eq hs _ (λ p. 1) (λ p m.
       let w = of-keep (isH st) (upto (length (st .kinds))) p m in
       h-once lone p (of-upto (length (st .kinds)) p (w .0)) (w .1)))
-      ∙ sum-ones hs
+      ∙ sum-map-const hs 1
+      ∙ mul-one (length hs)
       ∙ length-keep (isH st) (upto (length (st .kinds)))
-      ∙ ap count (each-getD (λ k. eqb k 0) 0 (st .kinds))
+      ∙ ap count (each-getD (λ k. eqb k 0) (st .kinds) 0)
 
   pub folded-hydrogens : loneH st ≡ false → sum (each (folded st .size) (hydrogens (folded st))) ≡ hydrogenAtoms st
   folded-hydrogens lone = h-bonds ∙ h-count lone

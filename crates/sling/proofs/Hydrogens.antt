@@ -12,12 +12,13 @@ use lib.Seq.{getD-append-seam}
 use lib.Dec.{eqb}
 use borrow.Author.Tests.{eq-eqb, ne-eqb}
 use Rattle.lists.specs.Tests.{count}
+use Rattle.lists.proofs.All.{All, all-snoc, map-all, count-all-none}
+use Rattle.lists.proofs.Passed.{count-snoc}
 use Rattle.molecule.specs.Bonds.{Bond, on}
 use Rattle.molecule.specs.Molecule.{Molecule}
 use Rattle.molecule.proofs.Sound.{Sound}
 use Rattle.sling.specs.Reading.{hydrogensOn}
 use Rattle.sling.specs.Walk.{hydrogensAt, codeAt, Written, placeIn, putHs, first, written}
-use Rattle.sling.proofs.ListLaws.{All, all-snoc, map-all, count-snoc, count-all-none}
 use Rattle.sling.proofs.Tidy.{bond, hAt, hBond}
 use Rattle.sling.proofs.Places.{On, place-more, on-more, place-new, on-new, on-cases, rank-at, places-differ}
 use Rattle.sling.proofs.Strokes.{putHs-suc, putAt, Rank, Near, withHs, nextAt, ringAt, Strokes, here, onward, back, putHs-keeps, putHs-old}

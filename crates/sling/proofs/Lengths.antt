@@ -10,12 +10,12 @@ use lib.Dec.{eqb}
 use borrow.Author.Tests.{ltb-false, leb-false}
 use Rattle.lists.specs.Upto.{sum}
 use Rattle.lists.proofs.Steps.{sum-append}
+use Rattle.lists.proofs.All.{All, all-snoc}
 use Rattle.molecule.specs.Molecule.{Molecule}
 use Rattle.sling.specs.Items.{Item, at, up, atom, reference, ring}
 use Rattle.sling.specs.Reading.{State, after}
 use Rattle.sling.specs.Walk.{codeAt, kindAt, Written, placeIn, written}
 use Rattle.sling.specs.Printed.{endsInDigit, bytes}
-use Rattle.sling.proofs.ListLaws.{All, all-snoc}
 use Rattle.sling.proofs.Tokens.{Plain, mark-is, cost, item-long}
 use Rattle.sling.proofs.Walks.{Clear, Walk, here, step}
 use Rattle.sling.proofs.Strokes.{said, Keeps}

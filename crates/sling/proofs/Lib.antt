@@ -1,13 +1,11 @@
 pub mod Open
 mod ReadExamples
 mod WriteExamples
-pub mod ListLaws
 pub mod Numbers
 pub mod Symbols
 pub mod Tokens
 pub mod Walks
 pub mod Tidy
-pub mod Counting
 pub mod Folds
 pub mod Limits
 pub mod Places

@@ -10,11 +10,12 @@ use lib.Dec.{eqb, ltb}
 use borrow.Author.Tests.{le-ltb, ltb-false, eqb-true}
 use Rattle.lists.specs.Tests.{count}
 use Rattle.lists.proofs.Booleans.{or-neither}
+use Rattle.lists.proofs.All.{All, map-all}
+use Rattle.lists.proofs.Passed.{count-snoc}
 use Rattle.molecule.specs.Bonds.{Bond, on}
 use Rattle.sling.specs.Items.{Item, atom, reference, ring}
 use Rattle.sling.specs.Reading.{State, start, placeOf, goal, after, toH, hydrogensOn, bondsOn}
 use Rattle.sling.specs.Faults.{heavyAtoms, hydrogenAtoms, heavyBonds, overAt, over}
-use Rattle.sling.proofs.ListLaws.{All, map-all, count-snoc}
 use Rattle.sling.proofs.Walks.{Walk, here, step, Kept}
 use Rattle.sling.proofs.Tidy.{bond, Proper, Reader, reader-after, hBond}
 

@@ -4,11 +4,11 @@ use mathlib.Core.List.{List, [], _∷_}
 use Prim.Native.Nat.{ℕ, zero, suc, _+_}
 use native.Mathlib.Omega.{arith}
 use lib.Dec.{eqb, ltb}
+use Rattle.lists.proofs.All.{All}
 use Rattle.molecule.specs.Kinds.{kindOfSymbol}
 use Rattle.sling.specs.Items.{Target, Item, atom, reference, ring}
 use Rattle.sling.specs.Scanned.{Scanned, got, broken, Number, number, none, isDigit, isCapital, isSmall, smallFirst, numberAt, placed, stepped, target, bracketed, body, markOf, scan, token, tokens}
 use Rattle.sling.specs.Faults.{codeOf}
-use Rattle.sling.proofs.ListLaws.{All}
 use Rattle.sling.proofs.Walks.{Marked, MarkedToken}
 
 abbrev MarkedScan : Scanned → Type 0

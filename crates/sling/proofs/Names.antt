@@ -9,6 +9,9 @@ use lib.ListN.{length, getD, length-append, List·getD-append}
 use lib.Dec.{eqb, ltb}
 use borrow.Author.Tests.{ne-eqb, le-ltb}
 use Rattle.lists.specs.Tests.{count}
+use Rattle.lists.proofs.All.{All}
+use Rattle.lists.proofs.Passed.{count-not}
+use Rattle.lists.proofs.Tested.{some-true-count}
 use Rattle.molecule.specs.Bonds.{joins}
 use Rattle.molecule.specs.Molecule.{Molecule}
 use Rattle.molecule.specs.Renumbering.{Renumbered}
@@ -19,7 +22,6 @@ use Rattle.sling.specs.Faults.{run, finished}
 use Rattle.sling.specs.Folded.{folded, loneH, readText}
 use Rattle.sling.specs.Walk.{kindAt, written, placeIn}
 use Rattle.sling.specs.Printed.{nameBytes}
-use Rattle.sling.proofs.ListLaws.{All, count-not, some-counted}
 use Rattle.sling.proofs.Tokens.{Plain, tokens-bytes}
 use Rattle.sling.proofs.Walks.{walk-run}
 use Rattle.sling.proofs.Tidy.{Reader, reader-start, reader-walk}
@@ -95,7 +97,7 @@ module _ (W : Molecule) (S : Sound W) where
   bond-once r s n =
       omega (
         arith,
-        some-counted _ (all-traced W (S .some) (S .linked) r s n),
+        some-true-count _ (all-traced W (S .some) (S .linked) r s n),
         final-reader .tidy .once (placeIn (written W .ranks) r) (placeIn (written W .ranks) s),
       )
 

@@ -10,18 +10,20 @@ use borrow.Author.Tests.{ne-eqb, eqb-true}
 use Rattle.lists.specs.Upto.{upto, each, sum}
 use Rattle.lists.specs.Tests.{keep, count, some}
 use Rattle.lists.specs.Shuffle.{Shuffle}
-use Rattle.sling.proofs.Tidy.{heavy-within}
-use Rattle.lists.proofs.Sums.{sum-eq, sum-const, count-sum}
-use Rattle.lists.proofs.Counts.{count-none, count-eq, length-keep}
+use Rattle.lists.proofs.Sums.{sum-eq, sum-const, count-sum, sum-swap}
+use Rattle.lists.proofs.Counts.{count-none, count-eq, count-pick}
 use Rattle.lists.proofs.Kept.{keep-map, keep-eq, mem-keep}
+use Rattle.lists.proofs.Passed.{length-keep}
+use Rattle.lists.proofs.All.{All, map-all}
+use Rattle.lists.proofs.Found.{find-passes}
+use Rattle.lists.proofs.Upto.{each-getD}
 use Rattle.molecule.specs.Molecule.{Molecule}
 use Rattle.molecule.specs.Renumbering.{Renumbered}
 use Rattle.molecule.proofs.Sound.{Sound}
 use Rattle.sling.specs.Reading.{isH}
 use Rattle.sling.specs.Folded.{heavyPlaces, folded}
 use Rattle.sling.specs.Walk.{kindAt, placeIn, written}
-use Rattle.sling.proofs.ListLaws.{All, map-all, find-passes}
-use Rattle.sling.proofs.Counting.{sum-swap, count-each-only, each-getD}
+use Rattle.sling.proofs.Tidy.{heavy-within}
 use Rattle.sling.proofs.Places.{On, rank-at, places-apart, mem-on, on-mem}
 use Rattle.sling.proofs.Strokes.{Rank}
 use Rattle.sling.proofs.Finished.{all-on}
@@ -43,7 +45,7 @@ rank-once : (n x : ℕ) → x ≤ n → cond (not (eqb x 0)) 1 0 ≡ count (each
 rank-once n zero h = sym (count-none n (λ a. eqb 0 (suc a)) (λ a l. eqb·zero-suc a))
 rank-once n (suc b) h =
     rw (ne-eqb (suc b) 0 (λ e. omega arith))
-    (sym (count-eq n (λ a. eqb (suc b) (suc a)) (λ a. true && eqb b a) (λ a l. eqb·suc-suc b a) ∙ count-each-only n b (λ a. true) h))
+    (sym (count-eq n (λ a. eqb (suc b) (suc a)) (λ a. true && eqb b a) (λ a l. eqb·suc-suc b a) ∙ count-pick n b (λ a. true) h))
 
 -- a list that has each of 1 to n once, and else only H
 order-long : (n : ℕ) (l : List ℕ) → All (λ x. x ≤ n) l → ((a : ℕ) → a < n → count (map (λ x. eqb x (suc a)) l) ≡ 1) → length (order l) ≡ n
@@ -99,7 +101,7 @@ module _ (W : Molecule) (S : Sound W) (us : List ℕ) where
   order-places =
       let l = written W .ranks in
       let st = readerOf W (written W) us in
-      ap (keep (λ x. not (eqb x 0))) (sym (map-id l) ∙ sym (each-getD (λ x. x) 0 l))
+      ap (keep (λ x. not (eqb x 0))) (sym (map-id l) ∙ sym (each-getD (λ x. x) l 0))
       ∙ keep-map (λ x. not (eqb x 0)) (λ p. getD l p 0) (upto (length l))
       ∙ ap (map (λ p. getD l p 0)) (
       keep-eq (upto (length l)) (λ p. not (eqb (getD l p 0) 0)) (λ p. not (isH st p)) (λ p m. sym (heavy-is p))
@@ -113,7 +115,7 @@ module _ (W : Molecule) (S : Sound W) (us : List ℕ) where
       let ps = heavyPlaces (readerOf W (written W) us) in
       let i = placeIn (order l) (suc a) in
       let f : ℕ → ℕ = λ p. getD l p 0 in
-      let e : getD (order l) i (f 0) ≡ suc a = eqb-true _ (suc a) (find-passes (λ x. eqb x (suc a)) (f 0) (order l) (turn-on W S a h)) in
+      let e : getD (order l) i (f 0) ≡ suc a = eqb-true _ (suc a) (find-passes (λ x. eqb x (suc a)) (order l) (f 0) (turn-on W S a h)) in
       let g : f (getD ps i 0) ≡ suc a = sym (List·getD-map f ps i 0) ∙ ap (λ (k : List ℕ). getD k i (f 0)) (sym order-places) ∙ e in
       let there : getD ps i 0 < length l = heavy-within l (getD ps i 0) (ne-eqb (f (getD ps i 0)) 0 (λ z. omega arith)) in
       sym (ap (placeIn l) (sym g) ∙ place-at l (getD ps i 0) (written-ranked W (S .some) .once) there (omega arith))

@@ -9,11 +9,11 @@ use lib.ListN.{length, getD, length-append}
 use lib.Dec.{eqb}
 use borrow.Author.Tests.{eq-eqb, lt-ltb, ltb-true, eqb-true, ne-eqb}
 use Rattle.lists.specs.Tests.{some}
-use Rattle.sling.proofs.Counting.{getD-mem}
-use Rattle.lists.proofs.Tested.{some-pass}
+use Rattle.lists.proofs.Tested.{some-pass, some-snoc}
 use Rattle.lists.proofs.Booleans.{or-either}
+use Rattle.lists.proofs.Members.{getD-mem}
+use Rattle.lists.proofs.Found.{find-passes, find-append, find-snoc, find-some}
 use Rattle.sling.specs.Walk.{placeIn}
-use Rattle.sling.proofs.ListLaws.{some-snoc, find-passes, find-append, find-snoc, find-some}
 
 -- a rank is written
 abbrev pub On : List ℕ → ℕ → Type 0
@@ -44,7 +44,7 @@ on-cases l s x h =
 
 -- what stands at the place of a rank is the rank, so that two ranks do not share a place
 pub rank-at : (l : List ℕ) (r : ℕ) → On l r → getD l (placeIn l r) 0 ≡ r
-rank-at l r h = eqb-true _ r (find-passes (λ x. eqb x r) 0 l h)
+rank-at l r h = eqb-true _ r (find-passes (λ x. eqb x r) l 0 h)
 
 pub places-apart : (l : List ℕ) (r s : ℕ) → On l r → On l s → placeIn l r ≡ placeIn l s → r ≡ s
 places-apart l r s hr hs e = sym (rank-at l r hr) ∙ ap (λ (p : ℕ). getD l p 0) e ∙ rank-at l s hs

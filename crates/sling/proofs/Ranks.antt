@@ -9,11 +9,15 @@ use lib.ListN.{length, getD}
 use lib.Dec.{eqb}
 use borrow.Author.Tests.{eq-eqb, ne-eqb, le-ltb, eqb-true}
 use Rattle.lists.specs.Tests.{count}
+use Rattle.lists.proofs.Booleans.{cond-le}
+use Rattle.lists.proofs.All.{All, all-snoc, all-getD}
+use Rattle.lists.proofs.Passed.{count-snoc, count-take}
+use Rattle.lists.proofs.Found.{find-some}
+use Rattle.lists.proofs.Tested.{some-false-count}
 use Rattle.sling.proofs.Tidy.{hAt}
 use Rattle.molecule.specs.Molecule.{Molecule}
 use Rattle.molecule.proofs.Sound.{Sound}
 use Rattle.sling.specs.Walk.{kindAt, placeIn, written}
-use Rattle.sling.proofs.ListLaws.{All, all-snoc, all-getD, one-le, count-snoc, find-some, none-counted}
 use Rattle.sling.proofs.Places.{On}
 use Rattle.sling.proofs.Strokes.{Keeps}
 use Rattle.sling.proofs.Finished.{written-keeps}
@@ -26,7 +30,7 @@ pub record Ranked (W : Molecule) (l : List ℕ) : Type 0 where
 count-absent : (l : List ℕ) (r : ℕ) → (On l r → ⊥) → count (map (λ x. eqb x r) l) ≡ 0
 count-absent l r n =
     let far : length l ≤ placeIn l r = omega arith in
-    none-counted (map (λ x. eqb x r) l) (sym (find-some (λ x. eqb x r) l) ∙ le-ltb _ _ far)
+    some-false-count (map (λ x. eqb x r) l) (sym (find-some (λ x. eqb x r) l) ∙ le-ltb _ _ far)
 
 ranked-snoc : (W : Molecule) (l : List ℕ) (s : ℕ) → s ≤ W .size → (0 < s → On l s → ⊥) → Ranked W l → Ranked W (l ++ (s ∷ []))
 ranked-snoc W l s h n t = record { once = λ r p. pick r p (eqb s r) refl; high = all-snoc (λ x. x ≤ W .size) l s (t .high) h }
@@ -35,7 +39,7 @@ ranked-snoc W l s h n t = record { once = λ r p. pick r p (eqb s r) refl; high 
     pick r p true e =
         let z : s ≡ r = eqb-true s r e in
         let c : count (map (λ x. eqb x r) l) ≡ 0 = subst (λ (k : ℕ). count (map (λ x. eqb x k) l) ≡ 0) z (count-absent l s (n (omega arith))) in
-        omega (arith, count-snoc (λ x. eqb x r) l s, one-le (eqb s r))
+        omega (arith, count-snoc (λ x. eqb x r) l s, cond-le (eqb s r) true (λ f. refl))
     pick r p false e = let k = count-snoc (λ x. eqb x r) l s in let j = rw e at k in omega (arith, t .once r p)
 
 ranked-keeps : (W : Molecule) → Keeps W (λ w. Ranked W (w .ranks))
@@ -48,13 +52,11 @@ ranked-keeps W =
 
 pub written-ranked : (W : Molecule) → 0 < W .size → Ranked W (written W .ranks)
 written-ranked W h =
-    written-keeps W h (λ w. Ranked W (w .ranks)) (ranked-keeps W) (record { once = λ r p. omega (arith, one-le (eqb 1 r)); high = (h, tt) })
+    written-keeps W h (λ w. Ranked W (w .ranks)) (ranked-keeps W) (record { once = λ r p. omega (arith, cond-le (eqb 1 r) true (λ f. refl)); high = (h, tt) })
 
 -- a rank stands where it is found
 pub count-has : (l : List ℕ) (p : ℕ) → p < length l → 1 ≤ count (map (λ x. eqb x (getD l p 0)) l)
-count-has [] p h = absurd (not-suc-le-zero h)
-count-has (y ∷ l) zero h = rw (eq-eqb y y refl) (omega arith)
-count-has (y ∷ l) (suc p) h = omega (arith, count-has l p (omega arith))
+count-has l p h = omega (arith, count-take (λ x. eqb x (getD l p 0)) l p 0 h (eq-eqb (getD l p 0) (getD l p 0) refl))
 
 pub place-at : (l : List ℕ) (p : ℕ) → ((r : ℕ) → 0 < r → count (map (λ x. eqb x r) l) ≤ 1) → p < length l → 0 < getD l p 0 → placeIn l (getD l p 0) ≡ p
 place-at [] p o h z = absurd (not-suc-le-zero h)

@@ -12,13 +12,14 @@ use lib.Dec.{ltb}
 use borrow.Author.Tests.{lt-ltb, le-ltb, ltb-true, ltb-false}
 use Rattle.lists.specs.Upto.{each}
 use Rattle.lists.specs.Tests.{count, some}
-use Rattle.lists.proofs.Tested.{some-true}
+use Rattle.lists.proofs.Tested.{some-true, some-snoc}
 use Rattle.lists.proofs.Counts.{count-le, count-lt}
+use Rattle.lists.proofs.All.{All, all-map, all-snoc, all-mem}
 use Rattle.molecule.specs.Bonds.{Bond, joins}
 use Rattle.molecule.specs.Molecule.{Molecule}
+use Rattle.molecule.proofs.BondLists.{joins-ends}
 use Rattle.sling.specs.Walk.{codeAt, Written, placeIn, isWritten, isTraced}
-use Rattle.sling.proofs.ListLaws.{All, all-map, all-snoc, all-mem, some-snoc}
-use Rattle.sling.proofs.Tidy.{bond, joins-ends}
+use Rattle.sling.proofs.Tidy.{bond}
 use Rattle.sling.proofs.Places.{On, place-more, on-more, on-new}
 use Rattle.sling.proofs.Strokes.{Near, nextAt, back, Keeps, keeps-put}
 

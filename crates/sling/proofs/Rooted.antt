@@ -10,38 +10,40 @@ use borrow.Author.Tests.{eqb-false, not-true}
 use Rattle.lists.specs.Upto.{from, upto}
 use Rattle.lists.specs.Tests.{keep, some}
 use Rattle.lists.proofs.Kept.{of-keep}
-use Rattle.lists.proofs.Tested.{some-true}
+use Rattle.lists.proofs.Tested.{some-true, some-true-count}
 use Rattle.lists.proofs.Upto.{of-from, of-upto}
+use Rattle.lists.proofs.All.{all-mem}
+use Rattle.lists.proofs.Passed.{count-map-apart}
+use Rattle.lists.proofs.Members.{getD-mem}
 use Rattle.molecule.specs.Bonds.{Bond, on, joins, codeIn}
 use Rattle.molecule.proofs.Sound.{Linked}
+use Rattle.molecule.proofs.BondLists.{Between, joins-ends}
 use Rattle.sling.specs.Reading.{State, isH}
 use Rattle.sling.specs.Folded.{heavyPlaces, folded}
-use Rattle.sling.proofs.ListLaws.{all-mem, count-map-apart, some-counted}
-use Rattle.sling.proofs.Counting.{getD-mem}
-use Rattle.sling.proofs.Tidy.{Proper, Tidy, joins-ends, joins-swap, first-joined, Joined, Ends}
+use Rattle.sling.proofs.Tidy.{Proper, Tidy, joined-swap, first-joined, Joined}
 use Rattle.sling.proofs.Folds.{code-joined, end-of, place-heavy}
 use Rattle.sling.proofs.Fits.{atom-at}
 
 -- the first number that is kept stands at the head
-first-kept : (h : ℕ → Bool) (k n : ℕ) → h k ≡ true → (a : ℕ) → a < length (keep h (from k (suc n))) → getD (keep h (from k (suc n))) a 0 ≡ k → a ≡ 0
+head-kept : (h : ℕ → Bool) (k n : ℕ) → h k ≡ true → (a : ℕ) → a < length (keep h (from k (suc n))) → getD (keep h (from k (suc n))) a 0 ≡ k → a ≡ 0
 unfolding keep from
-first-kept h k n e zero l q = refl
-first-kept h k n e (suc a) l q =
+head-kept h k n e zero l q = refl
+head-kept h k n e (suc a) l q =
     let l₁ = simp e at l in
     let q₁ = simp e at q in
     let w = of-keep h (from (suc k) n) _ (getD-mem (keep h (from (suc k) n)) a 0 (omega arith)) in
     absurd (omega (arith, of-from (suc k) n _ (w .0)))
 
-first-kept-below : (h : ℕ → Bool) (n p : ℕ) → p < n → h p ≡ true → (p ≡ 0) ⊎ ((p ≡ 1) × (h 0 ≡ false))
+head-kept-below : (h : ℕ → Bool) (n p : ℕ) → p < n → h p ≡ true → (p ≡ 0) ⊎ ((p ≡ 1) × (h 0 ≡ false))
     → (a : ℕ) → a < length (keep h (upto n)) → getD (keep h (upto n)) a 0 ≡ p → a ≡ 0
 unfolding keep from
-first-kept-below h zero p k e c a l q = absurd (not-suc-le-zero k)
-first-kept-below h (suc n) p k e (inl z) a l q = first-kept h 0 n (rw z at e) a l (q ∙ z)
-first-kept-below h (suc zero) p k e (inr z) a l q = absurd (let y : p ≡ 1 = z .0 in omega arith)
-first-kept-below h (suc (suc n)) p k e (inr z) a l q = first-kept h 1 n (rw (z .0) at e) a (simp (z .1) at l) ((simp (z .1) at q) ∙ z .0)
+head-kept-below h zero p k e c a l q = absurd (not-suc-le-zero k)
+head-kept-below h (suc n) p k e (inl z) a l q = head-kept h 0 n (rw z at e) a l (q ∙ z)
+head-kept-below h (suc zero) p k e (inr z) a l q = absurd (let y : p ≡ 1 = z .0 in omega arith)
+head-kept-below h (suc (suc n)) p k e (inr z) a l q = head-kept h 1 n (rw (z .0) at e) a (simp (z .1) at l) ((simp (z .1) at q) ∙ z .0)
 
 -- a bond that joins c and p does not join c and q
-ends-apart : (c p q : ℕ) (b : Bond) → (p ≡ q → ⊥) → Ends c p b → Ends c q b → ⊥
+ends-apart : (c p q : ℕ) (b : Bond) → (p ≡ q → ⊥) → Between c p b → Between c q b → ⊥
 ends-apart c p q b ne (inl u) (inl v) = ne (sym (u .1) ∙ v .1)
 ends-apart c p q b ne (inl u) (inr v) = ne (sym (u .1) ∙ v .1 ∙ sym (u .0) ∙ v .0)
 ends-apart c p q b ne (inr u) (inl v) = ne (sym (u .0) ∙ v .0 ∙ sym (u .1) ∙ v .1)
@@ -60,10 +62,10 @@ module _ (st : State) (t : Tidy (st .kinds) (st .bonds)) where
   not-two c p q h ne e f =
       omega (
         arith,
-        some-counted _ e,
-        some-counted _ f,
+        some-true-count _ e,
+        some-true-count _ f,
         t .leaf c h,
-        count-map-apart (joins c p) (joins c q) (on c) (λ b z. (end-of c p b z .0, apart b z (joins c q b) refl)) (λ b z. end-of c q b z .0) (st .bonds),
+        count-map-apart (st .bonds) (joins c p) (joins c q) (on c) (λ b m z. (end-of c p b z .0, apart b z (joins c q b) refl)) (λ b m z. end-of c q b z .0),
       )
     where
       apart : (b : Bond) → joins c p b ≡ true → (x : Bool) → joins c q b ≡ x → joins c q b ≡ false
@@ -87,7 +89,7 @@ module _ (st : State) (t : Tidy (st .kinds) (st .bonds)) where
   on-h : (c p : ℕ) → isH st c ≡ true → c < suc p → suc p < length (st .kinds) → Joined (st .bonds) c (suc p) → (suc p ≡ 1) × (isH st 0 ≡ true)
   on-h (suc c) p f l h j =
       let r = t .rooted (suc c) (omega arith) (omega arith) in
-      absurd (not-two (suc c) (r .0) (suc p) f (λ z. omega (arith, r .1)) (ap some (joins-swap (suc c) (r .0) (st .bonds)) ∙ r .2) j)
+      absurd (not-two (suc c) (r .0) (suc p) f (λ z. omega (arith, r .1)) (ap some (joined-swap (suc c) (r .0) (st .bonds)) ∙ r .2) j)
   on-h zero zero f l h j = (refl, f)
   on-h zero (suc p) f l h j = absurd (not-two 0 1 (suc (suc p)) f (λ q. omega arith) (first-joined t (omega arith)) j)
 
@@ -112,7 +114,7 @@ module _ (st : State) (t : Tidy (st .kinds) (st .bonds)) where
         first : First st p → S a ≡ true
         first c =
             let way : (p ≡ 0) ⊎ ((p ≡ 1) × (not (isH st 0) ≡ false)) = ⊎-elim (λ x. inl x) (λ x. inr (x .0, ap not (x .1))) c in
-            ap S (first-kept-below (λ x. not (isH st x)) (length (st .kinds)) p n (ap not e) way a h q) ∙ s0
+            ap S (head-kept-below (λ x. not (isH st x)) (length (st .kinds)) p n (ap not e) way a h q) ∙ s0
 
         next : Later st p → S a ≡ true
         next w =

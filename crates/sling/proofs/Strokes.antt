@@ -9,13 +9,13 @@ use native.Mathlib.Omega.{arith}
 use lib.ListN.{length}
 use lib.Dec.{eqb}
 use borrow.Author.Tests.{eqb-true}
+use Rattle.lists.proofs.All.{All, mem-all}
 use Rattle.molecule.specs.Molecule.{Molecule, neighbours}
 use Rattle.molecule.proofs.Neighbours.{of-neighbours}
 use Rattle.sling.specs.Items.{Item, at, atom, reference, ring}
 use Rattle.sling.specs.Walk.{kindAt, hydrogensAt, codeAt, Written, placeIn, isTraced, serve, put, close, putHs, neighboursAt, isWritten, trace}
 use Rattle.sling.proofs.Tidy.{bond}
 use Rattle.sling.proofs.Places.{On, on-more, on-new, on-cases}
-use Rattle.sling.proofs.ListLaws.{All, mem-all}
 
 -- what is written to go to the atom of rank r
 abbrev pub said : ℕ → Written → List Item

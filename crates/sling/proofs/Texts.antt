@@ -1,51 +1,28 @@
 -- Whatever text is accepted, the molecule folded from it is sound.
-use mathlib.Core.Path.{_≡_, refl, sym, _∙_}
-use mathlib.Core.Bool.{Bool, true, false, cond, _&&_, or-comm}
-use mathlib.Core.List.{List, [], _∷_}
-use mathlib.Core.Logic.{⊎-elim}
+use mathlib.Core.Path.{_≡_, refl}
+use mathlib.Core.Bool.{Bool, true, false, cond}
+use mathlib.Core.List.{List, List·Memᴰ}
 use Prim.Native.Nat.{ℕ, _≤_}
 use native.Mathlib.Omega.{arith}
 use lib.ListN.{length, getD}
 use lib.Dec.{eqb, ltb}
 use borrow.Author.Tests.{eqb-false}
 use Rattle.lists.specs.Tests.{some}
-use Rattle.molecule.specs.Bonds.{Bond, joins, codeIn}
+use Rattle.lists.proofs.All.{all-mem, all-getD}
+use Rattle.molecule.specs.Bonds.{Bond}
 use Rattle.molecule.proofs.Sound.{Sound}
+use Rattle.molecule.proofs.BondLists.{codeIn-swap, codeIn-le, codeIn-self}
 use Rattle.sling.specs.Scanned.{tokens}
 use Rattle.sling.specs.Reading.{State, start, isH}
 use Rattle.sling.specs.Faults.{Outcome, stopped, finished, run}
 use Rattle.sling.specs.Folded.{heavyPlaces, folded, loneH, ended, readText}
-use Rattle.sling.proofs.ListLaws.{All, all-getD}
 use Rattle.sling.proofs.Walks.{stopped-not, run-walk}
-use Rattle.sling.proofs.Tidy.{Proper, Tidy, joins-ends, reader-start, reader-walk, first-joined}
+use Rattle.sling.proofs.Tidy.{Proper, Tidy, reader-start, reader-walk, first-joined}
 use Rattle.sling.proofs.Folds.{second, place-heavy}
 use Rattle.sling.proofs.Limits.{room-start, kept-room}
 use Rattle.sling.proofs.Fits.{Fits, room-fits, atom-at}
 use Rattle.sling.proofs.Marks.{tokens-marked}
 use Rattle.sling.proofs.Rooted.{joined-heavy, folded-linked}
-
--- codes between places
-code-most : (ks : List ℕ) (p q : ℕ) (bs : List Bond) → All (Proper ks) bs → codeIn bs p q ≤ 4
-code-most ks p q [] a = omega arith
-code-most ks p q (b ∷ bs) a = pick (joins p q b) (code-most ks p q bs (a .1))
-  where
-    pick : (x : Bool) → codeIn bs p q ≤ 4 → cond x (b .code) (codeIn bs p q) ≤ 4
-    pick true i = a .0 .mark .1
-    pick false i = i
-
-code-apart : (ks : List ℕ) (p : ℕ) (bs : List Bond) → All (Proper ks) bs → codeIn bs p p ≡ 0
-code-apart ks p [] a = refl
-code-apart ks p (b ∷ bs) a = pick (joins p p b) refl (code-apart ks p bs (a .1))
-  where
-    pick : (x : Bool) → joins p p b ≡ x → codeIn bs p p ≡ 0 → cond x (b .code) (codeIn bs p p) ≡ 0
-    pick true e i =
-        let same : (b .one ≡ p) × (b .two ≡ p) = ⊎-elim (λ z. z) (λ z. z) (joins-ends p p b e) in
-        absurd (a .0 .apart (same .0 ∙ sym (same .1)))
-    pick false e i = i
-
-code-even : (p q : ℕ) (bs : List Bond) → codeIn bs p q ≡ codeIn bs q p
-code-even p q [] = refl
-code-even p q (b ∷ bs) = λ i. cond (or-comm (eqb (b .one) p && eqb (b .two) q) (eqb (b .one) q && eqb (b .two) p) i) (b .code) (code-even p q bs i)
 
 module _ (st : State) (t : Tidy (st .kinds) (st .bonds)) (lone : loneH st ≡ false) where
   -- a place that is no H
@@ -68,13 +45,16 @@ module _ (st : State) (t : Tidy (st .kinds) (st .bonds)) (lone : loneH st ≡ fa
         known = λ a h. all-getD (λ k. k ≤ 24) (st .kinds) 0 (t .known) (omega arith) (getD (heavyPlaces st) a 0);
         few = F .few;
         hydrogens = F .hydrogens;
-        codes = λ a b h k. code-most (st .kinds) (getD (heavyPlaces st) a 0) (getD (heavyPlaces st) b 0) (st .bonds) (t .proper);
-        apart = λ a h. code-apart (st .kinds) (getD (heavyPlaces st) a 0) (st .bonds) (t .proper);
-        even = λ a b h k. code-even (getD (heavyPlaces st) a 0) (getD (heavyPlaces st) b 0) (st .bonds);
+        codes = λ a b h k. codeIn-le (st .bonds) (getD (heavyPlaces st) a 0) (getD (heavyPlaces st) b 0) 4 (λ c m. proper c m .mark .1);
+        apart = λ a h. codeIn-self (st .bonds) (getD (heavyPlaces st) a 0) (λ c m. proper c m .apart);
+        even = λ a b h k. codeIn-swap (st .bonds) (getD (heavyPlaces st) a 0) (getD (heavyPlaces st) b 0);
         degrees = F .degrees;
         bonds = F .bonds;
         linked = folded-linked st t;
       }
+    where
+      proper : (b : Bond) → List·Memᴰ b (st .bonds) → Proper (st .kinds) b
+      proper = all-mem (Proper (st .kinds)) (st .bonds) (t .proper)
 
 -- a text that is accepted was run to its end, and there was no H alone
 ended-run : (o : Outcome) (n : ℕ) (st : State) → ended o n ≡ finished st → (o ≡ finished st) × (loneH st ≡ false)

@@ -1,9 +1,9 @@
 -- What holds of the atoms and bonds that a reader has, after any items in which nothing is wrong: every bond is a proper one, no pair has
 -- two, an H has at most one, and each atom but the first has a bond to an older one.
 use mathlib.Core.Path.{_≡_, refl, ap, _∙_, subst}
-use mathlib.Core.Bool.{Bool, true, false, _&&_, _||_, or-comm, or-true, true≢false}
+use mathlib.Core.Bool.{Bool, true, false, _&&_, _||_, or-true, true≢false}
 use mathlib.Core.List.{List, [], _∷_, _++_, map}
-use mathlib.Core.Logic.{_⊎_, inl, inr, ⊎-elim}
+use mathlib.Core.Logic.{inl, inr, ⊎-elim}
 use Prim.Native.Nat.{ℕ, _<_, _≤_}
 use native.Mathlib.Nat.{not-suc-le-zero}
 use native.Mathlib.Omega.{arith}
@@ -11,11 +11,14 @@ use lib.ListN.{length, getD, length-append, List·getD-append, List·getD-eq-def
 use lib.Dec.{eqb, ltb}
 use borrow.Author.Tests.{eq-eqb, ne-eqb, ltb-true, ltb-false, leb-false, eqb-true, eqb-false}
 use Rattle.lists.specs.Tests.{count, some}
-use Rattle.lists.proofs.Booleans.{and-both, or-either, or-neither}
+use Rattle.lists.proofs.Booleans.{or-neither}
+use Rattle.lists.proofs.All.{All, all-map, all-snoc, count-all-none}
+use Rattle.lists.proofs.Passed.{count-snoc}
+use Rattle.lists.proofs.Tested.{some-count, some-snoc, some-false-count}
 use Rattle.molecule.specs.Bonds.{Bond, on, joins}
+use Rattle.molecule.proofs.BondLists.{Between, joins-ends, joins-swap}
 use Rattle.sling.specs.Items.{Item, atom, reference, ring}
 use Rattle.sling.specs.Reading.{State, start, placeOf, drawn, after}
-use Rattle.sling.proofs.ListLaws.{All, all-map, all-snoc, count-snoc, some-snoc, count-all-none, none-counted, counted-none}
 use Rattle.sling.proofs.Walks.{Marked, Clear, Walk, here, step}
 
 abbrev pub bond : ℕ → ℕ → ℕ → Bond
@@ -62,9 +65,8 @@ abbrev pub hBond : List ℕ → Bond → Bool
 hBond ks b = hAt ks (b .one) || hAt ks (b .two)
 
 -- the order of the ends does not matter
-pub joins-swap : (p q : ℕ) (bs : List Bond) → map (joins p q) bs ≡ map (joins q p) bs
-joins-swap p q [] = refl
-joins-swap p q (b ∷ bs) = λ i. or-comm (eqb (b .one) p && eqb (b .two) q) (eqb (b .one) q && eqb (b .two) p) i ∷ joins-swap p q bs i
+pub joined-swap : (p q : ℕ) (bs : List Bond) → map (joins p q) bs ≡ map (joins q p) bs
+joined-swap p q bs = λ i. map (λ b. joins-swap p q b i) bs
 
 joins-self : (p q m : ℕ) → joins p q (bond p q m) ≡ true
 joins-self p q m = simp (eq-eqb p p refl, eq-eqb q q refl)
@@ -72,23 +74,12 @@ joins-self p q m = simp (eq-eqb p p refl, eq-eqb q q refl)
 pub joined-last : (p q m : ℕ) (bs : List Bond) → Joined (bs ++ (bond p q m ∷ [])) p q
 joined-last p q m bs = some-snoc (joins p q) bs (bond p q m) ∙ rw (joins-self p q m, or-true)
 
--- a bond that joins p and q has them as its ends, one way or the other
-abbrev pub Ends : ℕ → ℕ → Bond → Type 0
-Ends p q b = ((b .one ≡ p) × (b .two ≡ q)) ⊎ ((b .one ≡ q) × (b .two ≡ p))
-
-pub joins-ends : (p q : ℕ) (b : Bond) → joins p q b ≡ true → Ends p q b
-joins-ends p q b e =
-    ⊎-elim
-    (λ z. let y = and-both (eqb (b .one) p) (eqb (b .two) q) z in inl (eqb-true _ _ (y .0), eqb-true _ _ (y .1)))
-    (λ z. let y = and-both (eqb (b .one) q) (eqb (b .two) p) z in inr (eqb-true _ _ (y .0), eqb-true _ _ (y .1)))
-    (or-either (eqb (b .one) p && eqb (b .two) q) _ e)
-
 -- a place that is not there has no bond
 pub none-on : (ks : List ℕ) (p : ℕ) (bs : List Bond) → length ks ≤ p → All (Proper ks) bs → count (map (on p) bs) ≡ 0
 none-on ks p bs h a = count-all-none (on p) (λ b x. simp (ne-eqb (b .one) p (λ e. omega (arith, x .one)), ne-eqb (b .two) p (λ e. omega (arith, x .two)))) bs a
 
 pub none-to : (ks : List ℕ) (p q : ℕ) (bs : List Bond) → length ks ≤ q → All (Proper ks) bs → some (map (joins p q) bs) ≡ false
-none-to ks p q bs h a = counted-none (map (joins p q) bs) (count-all-none (joins p q) far bs a)
+none-to ks p q bs h a = some-count (map (joins p q) bs) ∙ ap (ltb 0) (count-all-none (joins p q) far bs a)
   where
     far : (b : Bond) → Proper ks b → joins p q b ≡ false
     far b x = ne (joins p q b) refl
@@ -117,9 +108,9 @@ module _ (ks ks′ : List ℕ) (bs : List Bond) (c g m : ℕ) (t : Tidy ks bs) (
   drawn-once : (p q : ℕ) → count (map (joins p q) (bs ++ (bond c g m ∷ []))) ≤ 1
   drawn-once p q = pick (joins p q (bond c g m)) refl
     where
-      none : Ends p q (bond c g m) → count (map (joins p q) bs) ≡ 0
-      none (inl z) = rw (← (z .0), ← (z .1)) (none-counted _ apart)
-      none (inr z) = rw (← (z .0), ← (z .1)) (ap count (joins-swap g c bs) ∙ none-counted _ apart)
+      none : Between p q (bond c g m) → count (map (joins p q) bs) ≡ 0
+      none (inl z) = rw (← (z .0), ← (z .1)) (some-false-count _ apart)
+      none (inr z) = rw (← (z .0), ← (z .1)) (ap count (joined-swap g c bs) ∙ some-false-count _ apart)
 
       pick : (x : Bool) → joins p q (bond c g m) ≡ x → count (map (joins p q) (bs ++ (bond c g m ∷ []))) ≤ 1
       pick true e = let k = count-snoc (joins p q) bs (bond c g m) in let j = simp e at k in omega (arith, none (joins-ends p q (bond c g m) e))

@@ -10,10 +10,10 @@ use lib.ListN.{length, length-append}
 use lib.Dec.{leb}
 use borrow.Author.Tests.{lt-leb, ne-eqb, leb-true}
 use Rattle.lists.proofs.Booleans.{and-both}
+use Rattle.lists.proofs.All.{All}
 use Rattle.sling.specs.Items.{Target, at, up, Item, atom, reference, ring}
 use Rattle.sling.specs.Scanned.{got, isDigit, smallFirst, numberAt, placed, target, body, scan, Token, tok, tokens}
 use Rattle.sling.specs.Printed.{decimal, markBytes, symbolBytes, plus, itemBytes, endsInDigit, bytes}
-use Rattle.sling.proofs.ListLaws.{All}
 use Rattle.sling.proofs.Numbers.{digitFirst, decimal-read, decimal-long, decimal-first}
 use Rattle.sling.proofs.Symbols.{body-symbol, scan-symbol, symbol-first, symbol-long}
 

@@ -1,17 +1,18 @@
 -- Reading as a walk: items one by one, in which nothing is wrong but perhaps a limit. A walk whose limits are kept is what `run` accepts, and
 -- the other way round.
 use mathlib.Core.Path.{_≡_, refl}
-use mathlib.Core.Bool.{Bool, true, false, cond}
+use mathlib.Core.Bool.{Bool, false}
 use mathlib.Core.List.{List, [], _∷_, _++_}
 use Prim.Native.Nat.{ℕ, zero, suc, _+_, _<_, _≤_}
 use native.Mathlib.Omega.{arith}
 use lib.ListN.{length}
+use Rattle.lists.proofs.Booleans.{unless}
+use Rattle.lists.proofs.All.{All}
 use Rattle.sling.specs.Items.{Item}
 use Rattle.sling.specs.Scanned.{Token, tok, bad}
 use Rattle.sling.specs.Reading.{State, goal, after}
 use Rattle.sling.specs.Faults.{misplaced, unknown, missing, codeOf, brokenH, badBond, over, itemFault, stopped, finished, judged, run}
 use Rattle.sling.specs.Printed.{itemBytes, endsInDigit}
-use Rattle.sling.proofs.ListLaws.{All}
 use Rattle.sling.proofs.Tokens.{tokensOf}
 
 abbrev pub Marked : ℕ → Type 0
@@ -49,20 +50,15 @@ walk-run here k o d = refl
 walk-run (step {st = st} {i = i} c w) k o d =
     simp (clear-fault st i c (k .0)) (walk-run w (k .1) (o + length (itemBytes d i)) (endsInDigit i))
 
--- the first test of a cascade fails, and so on to its end
-passed : (b : Bool) (n m : ℕ) → cond b (suc n) m ≡ 0 → (b ≡ false) × (m ≡ 0)
-passed true n m e = absurd (omega arith)
-passed false n m e = (refl, e)
-
 fault-clear : (st : State) (i : Item) → Marked (codeOf i) → itemFault st i ≡ 0 → Clear st i × (over (after st i) (st .cursor) (goal st i) ≡ false)
 unfolding itemFault
 fault-clear st i k e =
-    let a = passed (misplaced st i) 1 _ e in
-    let b = passed (unknown i) 2 _ (a .1) in
-    let c = passed (missing st i) 4 _ (b .1) in
-    let d = passed (brokenH st i) 6 _ (c .1) in
-    let f = passed (badBond st i) 5 _ (d .1) in
-    (record { two = a .0; three = b .0; five = c .0; seven = d .0; six = f .0; mark = k }, passed (over (after st i) (st .cursor) (goal st i)) 3 0 (f .1) .0)
+    let a = unless (misplaced st i) 1 _ e in
+    let b = unless (unknown i) 2 _ (a .1) in
+    let c = unless (missing st i) 4 _ (b .1) in
+    let d = unless (brokenH st i) 6 _ (c .1) in
+    let f = unless (badBond st i) 5 _ (d .1) in
+    (record { two = a .0; three = b .0; five = c .0; seven = d .0; six = f .0; mark = k }, unless (over (after st i) (st .cursor) (goal st i)) 3 0 (f .1) .0)
 
 abbrev pub MarkedToken : Token → Type 0
 MarkedToken (tok o i) = Marked (codeOf i)
