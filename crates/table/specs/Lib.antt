@@ -1,0 +1,4 @@
+pub mod Arrays
+pub mod View
+pub mod Changes
+pub mod Flood
