@@ -9,3 +9,4 @@ pub mod Through
 pub mod Same
 pub mod Again
 pub mod Read
+pub mod Runs
