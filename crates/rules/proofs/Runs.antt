@@ -1,10 +1,10 @@
 -- The promises over runs: a run leaves what its answer says, so each promise about answers is one about runs.
-use mathlib.Core.List.{List}
-use mathlib.Core.Path.{_≡_, sym, _∙_, ap, subst}
+use mathlib.Core.List.{List, _++_}
+use mathlib.Core.Path.{_≡_, refl, sym, _∙_, ap, subst}
 use Prim.Native.Nat.{ℕ, _≤_}
 use lib.ListN.{length, getD, take, drop}
 use lib.Seq.{take-at}
-use Rattle.rules.specs.Answers.{Answer, accepted, atExit, nameOf, cardOf}
+use Rattle.rules.specs.Answers.{Answer, refused, accepted, atExit, nameOf, cardOf}
 use Rattle.rules.specs.Contracts.{Result, Allowed}
 use Rattle.rules.specs.Promises.{Same, Again}
 use Rattle.rules.specs.Runs.{output, CardRun, SameRuns, ApartRuns, AgainRuns}
@@ -16,6 +16,21 @@ use Rattle.rules.proofs.Again.{apart, again}
 pub run-output : (a : Answer) (lent : List ℕ) (r : Result) → Allowed a lent r → output r ≡ a .bytes
 unfolding atExit
 run-output a lent r p = ap (take (r .length)) (p .lent) ∙ take-at (a .bytes) (drop (length (a .bytes)) lent) (r .length) (sym (p .written))
+
+-- what a program has to leave, once it knows its answer
+pub refused-run : (a : Answer) (n p : ℕ) (lent : List ℕ) → a ≡ refused n p
+    → Allowed a lent (record { refusal = n; place = p; leaves = 0; length = 0; lent = lent })
+unfolding atExit
+refused-run a n p lent e =
+    subst (λ x. Allowed x lent (record { refusal = n; place = p; leaves = 0; length = 0; lent = lent })) (sym e)
+    (record { refusal = refl; place = refl; leaves = refl; written = refl; lent = refl })
+
+pub accepted-run : (a : Answer) (k : ℕ) (out lent : List ℕ) → a ≡ accepted k out
+    → Allowed a lent (record { refusal = 0; place = 0; leaves = k; length = length out; lent = out ++ drop (length out) lent })
+unfolding atExit
+accepted-run a k out lent e =
+    subst (λ x. Allowed x lent (record { refusal = 0; place = 0; leaves = k; length = length out; lent = out ++ drop (length out) lent })) (sym e)
+    (record { refusal = refl; place = refl; leaves = refl; written = refl; lent = refl })
 
 -- runs of answers that are equal leave the same
 equal-runs : (a a′ : Answer) (lent : List ℕ) (r r′ : Result) → a′ ≡ a → Allowed a lent r → Allowed a′ lent r′ → r ≡ r′
