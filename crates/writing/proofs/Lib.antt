@@ -1,0 +1,10 @@
+pub mod Bytes
+pub mod Copied
+pub mod Symbols
+pub mod Served
+pub mod Further
+pub mod Letters
+pub mod Notes
+pub mod Rows
+pub mod Cycle
+pub mod Top
