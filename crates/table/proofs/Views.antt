@@ -96,13 +96,13 @@ module _ (t : Arrays) (T : Tidy t) (a : ℕ) (h : a < t .n) where
           let e : asMolecule t .code a b ≡ getD (t .codes) (6 * a + w .0) 0 = subst (λ (x : ℕ). asMolecule t .code a x ≡ getD (t .codes) (6 * a + w .0) 0) (w .2) c in
           ap not (ne-eqb (asMolecule t .code a b) 0 (λ z. omega (arith, T .coded a (w .0) h (w .1))))
           ∙ sym
-          (some-pass (λ x. eqb x b) row (getD row (w .0) 0) (getD-mem row (w .0) 0 (omega (arith, near-long)))
-          (eq-eqb _ b (row-at (t .degrees) (t .near) a (w .0) (w .1) ∙ w .2)))
+              (some-pass (λ x. eqb x b) row (getD row (w .0) 0) (getD-mem row (w .0) 0 (omega (arith, near-long)))
+              (eq-eqb _ b (row-at (t .degrees) (t .near) a (w .0) (w .1) ∙ w .2)))
       go (inr f) =
           ap not (eq-eqb (asMolecule t .code a b) 0 (code-none b f))
           ∙ sym
-          (some-none (λ x. eqb x b) 0 row
-          (λ j l. let k : j < d = omega (arith, near-long) in ne-eqb (getD row j 0) b (λ e. f j k (sym (row-at (t .degrees) (t .near) a j k) ∙ e))))
+              (some-none (λ x. eqb x b) 0 row
+              (λ j l. let k : j < d = omega (arith, near-long) in ne-eqb (getD row j 0) b (λ e. f j k (sym (row-at (t .degrees) (t .near) a j k) ∙ e))))
 
   ascends : Rising 0 (0 + t .n) row
   ascends =

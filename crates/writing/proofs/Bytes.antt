@@ -1,16 +1,16 @@
 -- Bytes put behind each other, and the bytes of one item more.
-use mathlib.Core.Bool.{Bool, true, false, cond}
+use mathlib.Core.Bool.{Bool, true, false}
 use mathlib.Core.List.{List, [], _∷_, _++_, append-assoc, append-nil}
 use mathlib.Core.Path.{_≡_, refl, sym, ap, _∙_, subst}
-use Prim.Native.Nat.{ℕ, suc, _+_, _/_, _%_, _<_, _≤_}
+use Prim.Native.Nat.{ℕ, _+_, _/_, _%_, _<_, _≤_}
 use native.Mathlib.Omega.{arith}
 use native.Mathlib.Numerals.{add-one}
 use lib.ListN.{length, take, set, length-append, length-set}
 use lib.Seq.{take-suc-set}
-use lib.Dec.{eqb, ltb}
+use lib.Dec.{eqb}
 use borrow.Author.Tests.{lt-ltb, le-ltb, ne-eqb, eqb-true}
 use Rattle.molecule.specs.Kinds.{symbolOf}
-use Rattle.sling.specs.Items.{Item, atom, reference, ring, at}
+use Rattle.sling.specs.Items.{Item}
 use Rattle.sling.specs.Printed.{decimal, symbolBytes, markBytes, itemBytes, endsInDigit, bytes}
 use Rattle.writing.specs.Added.{Room, Added}
 use Rattle.writing.specs.Shown.{digitAfter}

@@ -1,20 +1,19 @@
 -- What the two functions of the cycle need: the state that each call finds, and the one that it leaves.
 use mathlib.Core.Bool.{Bool, true, false, cond}
-use mathlib.Core.List.{List, [], _∷_, _++_}
+use mathlib.Core.List.{List, [], _∷_}
 use mathlib.Core.Path.{_≡_, refl, sym, ap, _∙_, subst}
 use Prim.Native.Nat.{ℕ, zero, suc, _+_, _*_, _-_, _<_, _≤_}
 use native.Mathlib.Omega.{arith}
 use lib.ListN.{length, getD, set, take, drop, take-append-drop}
-use lib.Dec.{eqb, ltb}
 use borrow.Author.Tests.{lt-ltb, ltb-true, ltb-false}
-use Rattle.molecule.specs.Molecule.{Molecule, kind, hydrogens}
+use Rattle.molecule.specs.Molecule.{Molecule, hydrogens}
 use Rattle.sling.specs.Walk.{kindAt, hydrogensAt, neighboursAt, codeAt, Written, placeIn, isWritten, isTraced, serve, put, close, putHs, trace, traces, finish}
 use Rattle.sling.proofs.Places.{On, on-new}
 use Rattle.writing.specs.declared.Pen.{Pen}
 use Rattle.writing.specs.Shown.{size, At, Lettered, Noted, marked}
 use Rattle.writing.specs.Lent.{Columns, Lent, Sheet, Shows, Finishing, Tracing}
-use Rattle.writing.proofs.Served.{putAt, closeAt, put-served, close-served}
-use Rattle.writing.proofs.Further.{Further, further-on, further-put, further-serve, further-hs, further-traces, further-trace, further-finish, traces-append}
+use Rattle.writing.proofs.Served.{putAt, put-served, close-served}
+use Rattle.writing.proofs.Further.{further-hs, further-traces, further-finish, traces-append}
 use Rattle.writing.proofs.Letters.{place-small}
 use Rattle.writing.proofs.Notes.{noted-put, noted-close, noted-hs}
 use Rattle.writing.proofs.Rows.{row-next, row-end}

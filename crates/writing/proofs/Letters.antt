@@ -2,15 +2,14 @@
 use mathlib.Core.Bool.{Bool, true, false, true≢false}
 use mathlib.Core.List.{List, [], _∷_, _++_}
 use mathlib.Core.Path.{_≡_, refl, sym, ap, _∙_, subst}
-use Prim.Native.Nat.{ℕ, zero, suc, _+_, _<_, _≤_}
+use Prim.Native.Nat.{ℕ, _+_, _<_, _≤_}
 use native.Mathlib.Omega.{arith}
 use native.Mathlib.Numerals.{add-one}
-use lib.ListN.{length, take, length-append}
+use lib.ListN.{length, length-append}
 use lib.Seq.{length-take-le}
-use lib.Dec.{eqb}
 use borrow.Author.Tests.{eq-eqb, ne-eqb, ltb-true}
 use Rattle.sling.specs.Items.{Item, at, atom, reference, ring}
-use Rattle.sling.specs.Walk.{Written, placeIn, isWritten, serve, put, close, putHs}
+use Rattle.sling.specs.Walk.{Written, placeIn, serve, put, close, putHs}
 use Rattle.sling.specs.Printed.{bytes, itemBytes, endsInDigit, markBytes, symbolBytes, decimal}
 use Rattle.writing.specs.declared.Pen.{Pen}
 use Rattle.writing.specs.Added.{Room, Added}

@@ -1,19 +1,18 @@
 -- Places and traced bonds, as the walk looks them up, after a hydrogen, a neighbour put, and a ring closed.
-use mathlib.Core.Bool.{Bool, true, false, cond, _&&_, _||_, or-false, or-true, and-false}
+use mathlib.Core.Bool.{Bool, true, false, cond, _&&_, _||_, or-false, and-false}
 use mathlib.Core.List.{List, [], _∷_, _++_, map, List·Memᴰ, List·Memᴰ·append-cases, List·Memᴰ·eq-of-singleton}
-use mathlib.Core.Logic.{_⊎_, inl, inr, ⊎-elim}
+use mathlib.Core.Logic.{⊎-elim}
 use mathlib.Core.Path.{_≡_, refl, sym, ap, ap₂, _∙_, subst}
 use Prim.Native.Nat.{ℕ, zero, suc, _+_, _*_, _<_, _≤_}
 use native.Mathlib.Omega.{arith}
 use lib.ListN.{length, getD, set, length-append, length-set}
 use lib.Seq.{getD-set-same, getD-set-other}
-use lib.Dec.{eqb, ltb, eqb·suc-suc, leb·suc-suc}
+use lib.Dec.{eqb, ltb, eqb·suc-suc}
 use borrow.Author.Tests.{lt-ltb, le-ltb, eq-eqb, ne-eqb, ltb-true, ltb-false, eqb-true, eqb-false}
-use Rattle.lists.specs.Tests.{some, find}
+use Rattle.lists.specs.Tests.{some}
 use Rattle.lists.proofs.Members.{map-eq}
 use Rattle.molecule.specs.Bonds.{Bond, joins}
-use Rattle.sling.specs.Items.{Item}
-use Rattle.sling.specs.Walk.{Written, placeIn, isWritten, isTraced, putHs}
+use Rattle.sling.specs.Walk.{Written, placeIn, isTraced, putHs}
 use Rattle.lists.proofs.Tested.{some-snoc}
 use Rattle.sling.proofs.Places.{On, place-more, on-more, place-new, on-new, on-cases, places-differ}
 use Rattle.writing.specs.Shown.{Noted, marked}

@@ -1,12 +1,11 @@
 -- What is put and closed once the atom is served, and hydrogens put one behind the other.
 use mathlib.Core.Bool.{Bool, true, false, cond}
 use mathlib.Core.List.{List, [], _∷_, _++_, append-nil}
-use mathlib.Core.Path.{_≡_, refl, sym, ap, _∙_}
+use mathlib.Core.Path.{_≡_, refl, ap}
 use Prim.Native.Nat.{ℕ, zero, suc}
 use lib.ListN.{length}
 use lib.Dec.{eqb}
 use borrow.Author.Tests.{eqb-true}
-use Rattle.molecule.specs.Bonds.{Bond}
 use Rattle.sling.specs.Items.{Item, at, atom, reference, ring}
 use Rattle.sling.specs.Walk.{Written, placeIn, serve, put, close, putHs}
 

@@ -1,25 +1,25 @@
 -- The first atom written, the walk begun, and what the walk's end says of the name.
-use mathlib.Core.Bool.{Bool, true, false, cond}
-use mathlib.Core.List.{List, [], _∷_, _++_, append-nil, List·Memᴰ, List·Memᴰ·not-nil}
+use mathlib.Core.Bool.{false, cond}
+use mathlib.Core.List.{List, [], _∷_, _++_, append-nil, List·Memᴰ·not-nil}
 use mathlib.Core.Path.{_≡_, refl, sym, ap, _∙_}
 use Prim.Native.Nat.{ℕ, zero, suc, _+_, _*_, _<_, _≤_}
 use native.Mathlib.Omega.{arith}
 use lib.ListN.{length, getD, set, take, drop, replicate, length-set, length-replicate, getD-replicate}
-use lib.Dec.{eqb, ltb}
 use borrow.Author.Tests.{lt-ltb, le-ltb, ne-eqb}
 use Rattle.lists.specs.Tests.{some}
-use Rattle.molecule.specs.Molecule.{Molecule, kind, hydrogens, neighbours}
+use Rattle.molecule.specs.Molecule.{Molecule, hydrogens}
+use Rattle.molecule.proofs.Sound.{Sound}
 use Rattle.sling.specs.Items.{atom}
-use Rattle.sling.specs.Walk.{Written, placeIn, isWritten, isTraced, finish, first, written}
+use Rattle.sling.specs.Walk.{placeIn, isWritten, finish, first, written}
 use Rattle.sling.specs.Printed.{symbolBytes, itemBytes, bytes, nameBytes}
 use Rattle.table.specs.declared.Table.{Table}
 use Rattle.table.specs.Arrays.{asMolecule}
-use Rattle.table.specs.View.{arraysOf, viewOf}
+use Rattle.table.specs.View.{arraysOf, viewOf, TidyTable}
 use Rattle.table.proofs.Views.{neighbours-row, code-slot}
 use Rattle.writing.specs.declared.Pen.{Pen}
 use Rattle.writing.specs.declared.Output.{Output}
 use Rattle.writing.specs.Added.{Room, Added}
-use Rattle.writing.specs.Shown.{size, At, Lettered, Noted}
+use Rattle.writing.specs.Shown.{size, Lettered, Noted}
 use Rattle.writing.specs.Lent.{Columns, Lent, Sheet, Shows, Finishing}
 use Rattle.writing.specs.Named.{Nameable, Named}
 use Rattle.writing.proofs.Bytes.{symbol-some}
@@ -105,26 +105,33 @@ module _ (t : Table) (N : Nameable t) where
 
   -- the walk's end
   module _ (s : Sheet) (S : Shows (viewOf t .size) s (finish (t .n) (viewOf t) 1 (first (viewOf t)))) where
-    pub end-size : s .pen .length ≡ length (nameBytes (viewOf t))
+    end-size : s .pen .length ≡ length (nameBytes (viewOf t))
     end-size = letters-size (s .buffer) (s .pen) (finish (t .n) (viewOf t) 1 (first (viewOf t))) (S .text) ∙ name-size
 
-    pub end-name : take (s .pen .length) (s .buffer) ≡ nameBytes (viewOf t)
+    pub name-added : (b : List ℕ) → Added b (s .buffer) 0 (s .pen .length) (nameBytes (viewOf t))
     unfolding asMolecule nameBytes written
-    end-name = S .text .text
+    name-added b = record { end = omega (arith, end-size); is = S .text .text; long = S .text .long }
 
-    pub too-short : (out : List ℕ) (r : Output) → length out < s .pen .length → r .refusal ≡ 10 → r .length ≡ 0 → Named (nameBytes (viewOf t)) out out r
-    too-short out r h e f =
-        let k : length out < length (nameBytes (viewOf t)) = omega (arith, end-size) in
-        let c = lt-ltb _ _ k in
-        record { refusal = e ∙ rw c; written = f ∙ rw c; lent = rw c }
+-- the answers: too little room, and the name copied
+module _ (name b buffer : List ℕ) (n : ℕ) (A : Added b buffer 0 n name) (out : List ℕ) (r : Output) where
+  pub too-short : length out < n → r .refusal ≡ 10 → r .length ≡ 0 → Named name out out r
+  too-short h e f =
+      let k : length out < length name = omega (arith, A .end) in
+      let c = lt-ltb _ _ k in
+      record { refusal = e ∙ rw c; written = f ∙ rw c; lent = rw c }
 
-    pub name-copied : (out after : List ℕ) (r : Output) → s .pen .length ≤ length out → r .refusal ≡ 0 → r .length ≡ s .pen .length
-        → after ≡ take (s .pen .length) (s .buffer) ++ drop (s .pen .length) out → Named (nameBytes (viewOf t)) out after r
-    name-copied out after r h e f g =
-        let k : length (nameBytes (viewOf t)) ≤ length out = omega (arith, end-size) in
-        let c = le-ltb _ _ k in
-        record {
-          refusal = e ∙ rw c;
-          written = f ∙ end-size ∙ rw c;
-          lent = g ∙ rw c (ap (λ (l : List ℕ). l ++ drop (s .pen .length) out) end-name ∙ ap (λ (n : ℕ). nameBytes (viewOf t) ++ drop n out) end-size);
-        }
+  pub name-copied : (after : List ℕ) → n ≤ length out → r .refusal ≡ 0 → r .length ≡ n → after ≡ take n buffer ++ drop n out → Named name out after r
+  name-copied after h e f g =
+      let z : n ≡ length name = omega (arith, A .end) in
+      let k : length name ≤ length out = omega arith in
+      let c = le-ltb _ _ k in
+      record {
+        refusal = e ∙ rw c;
+        written = f ∙ z ∙ rw c;
+        lent = g ∙ rw c (ap (λ (l : List ℕ). l ++ drop n out) (A .is) ∙ ap (λ (m : ℕ). name ++ drop m out) z);
+      }
+
+-- what a sound molecule's table, in rank order, brings
+pub sound-nameable : (t : Table) → TidyTable t → Sound (viewOf t) → length (nameBytes (viewOf t)) ≤ 2048 → Nameable t
+unfolding asMolecule
+sound-nameable t T S h = record { tidy = T; some = S .some; known = S .known; room = h }

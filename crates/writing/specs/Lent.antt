@@ -60,3 +60,17 @@ pub record Tracing (t : Columns) (s : Sheet) (a p d : ℕ) (W : Molecule) (w : W
   pub slot : p < getD (t .degrees) a 0
   pub on : (q : ℕ) × At w (suc a) q
   pub room : size (trace (finish d W) W (suc a) (suc (getD (t .near) (6 * a + p) 0)) w) ≤ 2048
+
+-- what the two functions of the walk ask: some molecule and some walk that the arrays show; and what they give, of each such
+abbrev pub Finishable : Columns → Sheet → (a d : ℕ) → Type 0
+Finishable t s a d = (W : Molecule) × (w : Written) × Finishing t s a d W w
+
+abbrev pub Finished : Columns → (before after : Sheet) (a d : ℕ) → Type 0
+Finished t s v a d = (W : Molecule) (w : Written) → Finishing t s a d W w → Shows (W .size) v (finish d W (suc a) w)
+
+abbrev pub Traceable : Columns → Sheet → (a p d : ℕ) → Type 0
+Traceable t s a p d = (W : Molecule) × (w : Written) × Tracing t s a p d W w
+
+abbrev pub Traced : Columns → (before after : Sheet) (a p d : ℕ) → Type 0
+Traced t s v a p d =
+    (W : Molecule) (w : Written) → Tracing t s a p d W w → Shows (W .size) v (trace (finish d W) W (suc a) (suc (getD (t .near) (6 * a + p) 0)) w)

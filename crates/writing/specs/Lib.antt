@@ -1,4 +1,5 @@
 pub mod Added
 pub mod Shown
+pub mod Strokes
 pub mod Lent
 pub mod Named

@@ -33,6 +33,14 @@ pub record Lettered (buffer : List ℕ) (p : Pen) (w : Written) : Type 0 where
   pub cursor : p .cursor .0 ≡ w .cursor
   pub few : length (w .ranks) ≤ p .length
 
+-- What a stroke f from the atom at place q asks: the buffer and the pen show a walk that has the atom there, and the stroke's bytes fit.
+abbrev pub Asks : (ℕ → Written → Written) → ℕ → List ℕ → Pen → Type 0
+Asks f q b p = (r : ℕ) × (w : Written) × Lettered b p w × At w r q × (size (f r w) ≤ 2048)
+
+-- What it gives: of each such walk, they show it with the stroke drawn.
+abbrev pub Draws : (ℕ → Written → Written) → ℕ → (before after : List ℕ) (pen moved : Pen) → Type 0
+Draws f q b b′ p p′ = (r : ℕ) (w : Written) → Lettered b p w → At w r q → size (f r w) ≤ 2048 → Lettered b′ p′ (f r w)
+
 -- the pair of atoms a and b marked, either way round, in a square of 64 by 64
 abbrev pub marked : List ℕ → ℕ → ℕ → List ℕ
 marked traced a b = set (set traced (64 * a + b) 1) (64 * b + a) 1

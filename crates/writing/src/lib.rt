@@ -7,6 +7,7 @@ ghost use Prim.Native.Nat.{_≤_};
 ghost use lib.ListN.{length, take, drop};
 ghost use Rattle.sling.specs.Printed.{nameBytes};
 ghost use Rattle.table.specs.View.{viewOf};
+ghost use Rattle.writing.specs.Added.{Added};
 ghost use Rattle.writing.specs.Named.{Nameable, Named};
 
 mod printed;
@@ -14,7 +15,7 @@ mod strokes;
 mod walk;
 
 // An atom's place in a text, from 0, hydrogens counted.
-pub struct Place(pub u16);
+struct Place(pub u16);
 
 impl Place {
     // The place of an atom that is not written.
@@ -22,7 +23,7 @@ impl Place {
 }
 
 // What the walk carries: the bytes written, the next place, the cursor's place, and whether a digit stands before.
-pub struct Pen {
+struct Pen {
     pub length: usize,
     pub next: Place,
     pub cursor: Place,
@@ -37,44 +38,26 @@ impl Pen {
     pub const PAIRS: usize = Table::MAX_ATOMS * Table::MAX_ATOMS;
 }
 
+// A bond on its way to be traced, from the first atom to the second.
+struct Bond {
+    pub one: AtomNo,
+    pub two: AtomNo,
+    pub code: u8,
+}
+
 // What became of a request: its refusal's number, and how many bytes were written.
 pub struct Output {
     pub refusal: u8,
     pub length: usize,
 }
 
-// Nothing is lent to the caller until the whole name is known, and with it its length.
+// The name of a table whose atoms stand in rank order. The whole name is known, and its length, before a lent byte is touched.
 pub fn write(t: Table, out: &mut [u8]) -> Output
     requires { ⌜ Nameable t ⌝ }
     ensures { λ r. ⌜ Named (nameBytes (viewOf t)) (now (out .entry)) (now (out .exit)) r ⌝ }
 {
-    let n = t.n;
     let mut buffer = [0u8; Pen::ROOM];
-    let mut places = [Place::NOWHERE; Table::MAX_ATOMS];
-    let mut traced = [0u8; Pen::PAIRS];
-    let kind = t.kinds[0];
-    places[0] = 0;
-    let length = printed::put_symbol(&mut buffer, 0, kind);
-    let begun = Pen {
-        length,
-        next: Place(1),
-        cursor: Place(0),
-        digit: false,
-    };
-    let pen = walk::finish(
-        &t.kinds,
-        &t.hydrogens,
-        &t.degrees,
-        &t.near,
-        &t.codes,
-        &mut buffer,
-        &mut places,
-        &mut traced,
-        AtomNo(0),
-        n,
-        begun,
-    );
-    let length = pen.length;
+    let length = put_name(t, &mut buffer);
     if out.len() < length {
         return Output {
             refusal: 10,
@@ -83,6 +66,38 @@ pub fn write(t: Table, out: &mut [u8]) -> Output
     }
     copy(&buffer, length, out);
     Output { refusal: 0, length }
+}
+
+// "Start at rank 1. To write an atom: symbol", and what follows it.
+fn put_name(t: Table, buffer: &mut [u8; Pen::ROOM]) -> usize
+    requires { ⌜ Nameable t × (length (now buffer) ≡ 2048) ⌝ }
+    ensures { λ r. ⌜ Added (now (buffer .entry)) (now (buffer .exit)) 0 r (nameBytes (viewOf t)) ⌝ }
+{
+    let n = t.n;
+    let mut places = [Place::NOWHERE; Table::MAX_ATOMS];
+    let mut traced = [0u8; Pen::PAIRS];
+    places[0] = 0;
+    let length = printed::put_symbol(buffer, 0, t.kinds[0]);
+    let pen = Pen {
+        length,
+        next: Place(1),
+        cursor: Place(0),
+        digit: false,
+    };
+    let moved = walk::finish(
+        &t.kinds,
+        &t.hydrogens,
+        &t.degrees,
+        &t.near,
+        &t.codes,
+        buffer,
+        &mut places,
+        &mut traced,
+        AtomNo(0),
+        n,
+        pen,
+    );
+    moved.length
 }
 
 // The first bytes of a buffer, copied to the start of another.

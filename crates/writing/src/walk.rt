@@ -1,15 +1,12 @@
 // What follows an atom's symbol: its hydrogens, then each neighbour whose bond is not yet traced, itself finished first.
+use crate::Bond;
 use crate::Pen;
 use crate::Place;
 use crate::strokes;
 use table::AtomNo;
 use table::Table;
 ghost use mathlib.Core.Path.{_≡_};
-ghost use Prim.Native.Nat.{ℕ, suc, _+_, _*_};
-ghost use lib.ListN.{getD};
-ghost use Rattle.molecule.specs.Molecule.{Molecule};
-ghost use Rattle.sling.specs.Walk.{Written, finish, trace};
-ghost use Rattle.writing.specs.Lent.{columns, sheet, Shows, Finishing, Tracing};
+ghost use Rattle.writing.specs.Lent.{columns, sheet, Finishable, Finished, Traceable, Traced};
 
 // The depth bounds how deep atoms hang from each other.
 pub fn finish<'a>(
@@ -25,18 +22,18 @@ pub fn finish<'a>(
     depth: usize,
     pen: Pen,
 ) -> Pen
-    requires { ⌜ ((W : Molecule) × (w : Written) × Finishing (columns (now kinds) (now hydrogens) (now degrees) (now near) (now codes)) (sheet (now buffer) (now places) (now traced) pen) (atom .0) depth W w) ⌝ }
-    ensures { λ q. ⌜ ((W : Molecule) (w : Written) → Finishing (columns (now (kinds .entry)) (now (hydrogens .entry)) (now (degrees .entry)) (now (near .entry)) (now (codes .entry))) (sheet (now (buffer .entry)) (now (places .entry)) (now (traced .entry)) pen) (atom .0) depth W w → Shows (W .size) (sheet (now (buffer .exit)) (now (places .exit)) (now (traced .exit)) q) (finish depth W (suc (atom .0)) w)) ⌝ }
+    requires { ⌜ Finishable (columns (now kinds) (now hydrogens) (now degrees) (now near) (now codes)) (sheet (now buffer) (now places) (now traced) pen) (atom .0) depth ⌝ }
+    ensures { λ q. ⌜ Finished (columns (now (kinds .entry)) (now (hydrogens .entry)) (now (degrees .entry)) (now (near .entry)) (now (codes .entry))) (sheet (now (buffer .entry)) (now (places .entry)) (now (traced .entry)) pen) (sheet (now (buffer .exit)) (now (places .exit)) (now (traced .exit)) q) (atom .0) depth ⌝ }
 {
     if depth == 0 {
         return pen;
     }
     let a = atom.0 as usize;
     let degree = wide(degrees[a]);
-    let mut there = strokes::put_hydrogens(buffer, Place(places[a]), hydrogens[a], pen);
+    let mut moved = strokes::put_hydrogens(buffer, Place(places[a]), hydrogens[a], pen);
     let mut k: usize = 0;
     while k < degree {
-        there = trace(
+        moved = trace(
             kinds,
             hydrogens,
             degrees,
@@ -48,11 +45,11 @@ pub fn finish<'a>(
             atom,
             k,
             depth - 1,
-            there,
+            moved,
         );
         k += 1;
     }
-    there
+    moved
 }
 
 fn wide(x: u8) -> usize
@@ -76,8 +73,8 @@ fn trace<'a>(
     depth: usize,
     pen: Pen,
 ) -> Pen
-    requires { ⌜ ((W : Molecule) × (w : Written) × Tracing (columns (now kinds) (now hydrogens) (now degrees) (now near) (now codes)) (sheet (now buffer) (now places) (now traced) pen) (atom .0) k depth W w) ⌝ }
-    ensures { λ q. ⌜ ((W : Molecule) (w : Written) → Tracing (columns (now (kinds .entry)) (now (hydrogens .entry)) (now (degrees .entry)) (now (near .entry)) (now (codes .entry))) (sheet (now (buffer .entry)) (now (places .entry)) (now (traced .entry)) pen) (atom .0) k depth W w → Shows (W .size) (sheet (now (buffer .exit)) (now (places .exit)) (now (traced .exit)) q) (trace (finish depth W) W (suc (atom .0)) (suc (getD (now (near .entry)) (6 * atom .0 + k) 0)) w)) ⌝ }
+    requires { ⌜ Traceable (columns (now kinds) (now hydrogens) (now degrees) (now near) (now codes)) (sheet (now buffer) (now places) (now traced) pen) (atom .0) k depth ⌝ }
+    ensures { λ q. ⌜ Traced (columns (now (kinds .entry)) (now (hydrogens .entry)) (now (degrees .entry)) (now (near .entry)) (now (codes .entry))) (sheet (now (buffer .entry)) (now (places .entry)) (now (traced .entry)) pen) (sheet (now (buffer .exit)) (now (places .exit)) (now (traced .exit)) q) (atom .0) k depth ⌝ }
 {
     let a = atom.0 as usize;
     let slot = Table::MAX_BONDS_ON * a + k;
@@ -86,22 +83,17 @@ fn trace<'a>(
     if traced[Table::MAX_ATOMS * a + s] == 1 {
         return pen;
     }
+    let bond = Bond {
+        one: atom,
+        two: next,
+        code: codes[slot],
+    };
     let here = Place(places[a]);
     let there = Place(places[s]);
     if there.0 != Place::NOWHERE {
-        return strokes::ring(buffer, traced, atom, next, here, there, codes[slot], pen);
+        return strokes::ring(buffer, traced, bond, here, there, pen);
     }
-    let put = strokes::branch(
-        buffer,
-        places,
-        traced,
-        atom,
-        next,
-        here,
-        codes[slot],
-        kinds[s],
-        pen,
-    );
+    let put = strokes::branch(buffer, places, traced, bond, kinds[s], here, pen);
     finish(
         kinds,
         hydrogens,

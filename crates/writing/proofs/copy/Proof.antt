@@ -1,15 +1,11 @@
 use mathlib.Core.List.{List, _++_}
-use mathlib.Core.Path.{_≡_, refl, ap, sym, subst, _∙_}
-use Prim.Native.Nat.{ℕ, _+_, _-_, _<_, _≤_}
+use mathlib.Core.Path.{_≡_, refl, ap, _∙_}
+use Prim.Native.Nat.{ℕ, _+_, _-_, _≤_}
 use native.Mathlib.Omega.{arith}
-use native.Mathlib.Numerals.{add-one}
 use lib.ListN.{length, getD, set, take, drop}
 use Rattle.writing.proofs.Copied.{copied-next, copied-long}
-use borrow.Author.Needs.{needs}
 use Rattle.writing.proofs.copy.Statement.{statement}
 use Rattle.writing.proofs.copy.Tie as tie
-use Rattle.writing.proofs.copy.Reads as reads
-use Rattle.writing.proofs.copy.Lts as lts
 
 abbrev Inv-loop : tie.InvT-loop
 Inv-loop buffer count out₀ i₀ out i = (i ≤ count) × (out ≡ take i buffer ++ drop i out₀)
@@ -17,27 +13,21 @@ Inv-loop buffer count out₀ i₀ out i = (i ≤ count) × (out ≡ take i buffe
 abbrev μ-loop : tie.MeasureT-loop
 μ-loop buffer count out₀ i₀ out i = count - i
 
--- src/lib.rt:66:5
 loop-holds : tie.Need-loop-holds Inv-loop μ-loop
 loop-holds c = (omega arith, refl)
 
--- src/lib.rt:67:18
 element-copy-out-out : tie.Need-element-copy-out-out Inv-loop μ-loop
 element-copy-out-out c = omega (arith, c .before .before .pre)
 
--- src/lib.rt:67:9
 slice-write-out : tie.Need-slice-write-out Inv-loop μ-loop
 slice-write-out c = let e = ap length (c .before .before .loop .inv .1) ∙ copied-long (c .before .before .before .args .buffer .now) (c .before .before .before .args .out .now) (c .before .before .loop .i) (omega (arith, c .before .before .before .pre)) (omega (arith, c .before .before .before .pre)) in omega (arith, c .before .before .before .pre)
 
--- src/lib.rt:68:9
 add-i : tie.Need-add-i Inv-loop μ-loop
 add-i c = omega (arith, c .before .before .before .pre)
 
--- src/lib.rt:66:5
 loop-less : tie.Need-loop-less Inv-loop μ-loop
 loop-less c = omega arith
 
--- src/lib.rt:66:5
 loop-again : tie.Need-loop-again Inv-loop μ-loop
 loop-again c =
     let l = c .before .before .loop in (
@@ -46,11 +36,9 @@ loop-again c =
           ∙ copied-next (c .before .before .before .args .buffer .now) (c .before .before .before .args .out .now) (l .i) (omega (arith, c .before .before .before .pre)) (omega (arith, c .before .before .before .pre)),
     )
 
--- src/lib.rt:64:1
 same-length : tie.Need-same-length Inv-loop μ-loop
 same-length c = let e = ap length (c .before .loop .inv .1) ∙ copied-long (c .before .before .args .buffer .now) (c .before .before .args .out .now) (c .before .loop .i) (omega (arith, c .before .before .pre)) (omega (arith, c .before .before .pre)) in e
 
--- src/lib.rt:64:1
 returns : tie.Need-returns Inv-loop μ-loop
 returns c =
     let l = c .before .loop in

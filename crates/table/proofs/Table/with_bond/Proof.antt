@@ -14,7 +14,8 @@ with-half-requires c κs = (c .pre .0, first-half (viewOf (c .args .self)) (c .a
 -- src/lib.rt:104:9
 with-half-requires-2 : tie.Need-with-half-requires-2
 with-half-requires-2 c κs =
-    let s = c .before in (
+    let s = c .before in
+    (
       c .with-half .ensures .0,
       second-half (viewOf (s .args .self)) (s .args .a .0) (s .args .b .0) (s .args .code) (s .pre .1) (viewOf (c .with-half .result)) (c .with-half .ensures .1),
     )
@@ -22,10 +23,11 @@ with-half-requires-2 c κs =
 -- src/lib.rt:100:5
 returns : tie.Need-returns
 returns c =
-    let s = c .before .before in (
+    let s = c .before .before in
+    (
       c .with-half2 .ensures .0,
       both-halves (viewOf (s .args .self)) (s .args .a .0) (s .args .b .0) (s .args .code) (s .pre .1) (viewOf (c .before .with-half .result)) (c .before .with-half .ensures .1)
-          (viewOf (c .with-half2 .result)) (c .with-half2 .ensures .1),
+      (viewOf (c .with-half2 .result)) (c .with-half2 .ensures .1),
     )
 
 pub with-bond-spec : {M : Type 1} → statement M

@@ -55,7 +55,7 @@ element-copy-out-t20 c = search needs
 
 -- src/flood.rt:38:9
 see-requires : tie.Need-see-requires Inv-loop μ-loop
-see-requires c κs =
+see-requires c κs = 
     let l = c .before .before .before .before in
     let s = c .before .before .before .before .before .before .before .before in
     (l .loop .inv .1, s .pre .2 (l .loop .p) (omega (arith, l .before .wide .ensures)))
@@ -70,10 +70,11 @@ loop-less c = search needs
 
 -- src/flood.rt:36:5
 loop-again : tie.Need-loop-again Inv-loop μ-loop
-loop-again c =
+loop-again c = 
     let l = c .before .before .before .before .before in
     let s = c .before .before .before .before .before .before .before .before .before in
-    let d : l .loop .p < getD (s .args .degrees .now) (s .args .a .0) 0 = omega (arith, l .before .wide .ensures) in (
+    let d : l .loop .p < getD (s .args .degrees .now) (s .args .a .0) 0 = omega (arith, l .before .wide .ensures) in
+    (
       omega arith,
       subst Counted (sym (c .see .ensures)) (see-counted _ _ (l .loop .inv .1) (s .pre .2 (l .loop .p) d)),
       ap (λ (f : Flood). seeAll f (drop (l .loop .p + 1) (rowIn (s .args .degrees .now) (s .args .near .now) (s .args .a .0)))) (c .see .ensures)
@@ -84,11 +85,11 @@ loop-again c =
 -- src/flood.rt:26:1
 returns : tie.Need-returns Inv-loop μ-loop
 unfolding seeAll
-returns c =
+returns c = 
     let l = c .before in
     let s = c .before .before .before .before .before in
     let e : length (rowIn (s .args .degrees .now) (s .args .near .now) (s .args .a .0)) ≤ l .loop .p
-    = omega (arith, l .before .wide .ensures, row-long (s .args .degrees .now) (s .args .near .now) (s .args .a .0) (omega (arith, s .pre .1))) in
+        = omega (arith, l .before .wide .ensures, row-long (s .args .degrees .now) (s .args .near .now) (s .args .a .0) (omega (arith, s .pre .1))) in
     sym (ap (seeAll (record { seen = l .loop .seen; queue = l .loop .queue; end = l .loop .last })) (drop-of-length-le _ e)) ∙ l .loop .inv .2
 
 pub visit-spec : {M : Type 1} → statement M

@@ -1,4 +1,4 @@
-use mathlib.Core.Path.{_≡_, ap, sym, _∙_}
+use mathlib.Core.Path.{ap}
 use Prim.Native.Nat.{ℕ}
 use native.Mathlib.Omega.{arith}
 use lib.ListN.{length}
@@ -7,46 +7,34 @@ use Rattle.writing.proofs.Bytes.{put-none, put-one, mark-none}
 use borrow.Author.Needs.{needs}
 use Rattle.writing.proofs.printed.put_mark.Statement.{statement}
 use Rattle.writing.proofs.printed.put_mark.Tie as tie
-use Rattle.writing.proofs.printed.put_mark.Reads as reads
-use Rattle.writing.proofs.printed.put_mark.Lts as lts
 
--- src/printed.rt:53:9
 element-write-buffer : tie.Need-element-write-buffer
 element-write-buffer c = omega (arith, c .before .pre, ap (λ (m : ℕ). length (markBytes m)) (c .if1 .taken))
 
--- src/printed.rt:54:16
 add-result : tie.Need-add-result
 add-result c = search needs
 
--- src/printed.rt:54:9
 returns : tie.Need-returns
 returns c = put-one _ _ _ (c .before .pre) _ (ap markBytes (c .if1 .taken))
 
--- src/printed.rt:57:9
 element-write-buffer-2 : tie.Need-element-write-buffer-2
 element-write-buffer-2 c = omega (arith, c .before .before .pre, ap (λ (m : ℕ). length (markBytes m)) (c .if2 .taken))
 
--- src/printed.rt:58:16
 add-result-2 : tie.Need-add-result-2
 add-result-2 c = search needs
 
--- src/printed.rt:58:9
 returns-2 : tie.Need-returns-2
 returns-2 c = put-one _ _ _ (c .before .before .pre) _ (ap markBytes (c .if2 .taken))
 
--- src/printed.rt:61:9
 element-write-buffer-3 : tie.Need-element-write-buffer-3
 element-write-buffer-3 c = omega (arith, c .before .before .before .pre, ap (λ (m : ℕ). length (markBytes m)) (c .if3 .taken))
 
--- src/printed.rt:62:16
 add-result-3 : tie.Need-add-result-3
 add-result-3 c = search needs
 
--- src/printed.rt:62:9
 returns-3 : tie.Need-returns-3
 returns-3 c = put-one _ _ _ (c .before .before .before .pre) _ (ap markBytes (c .if3 .taken))
 
--- src/printed.rt:48:1
 returns-4 : tie.Need-returns-4
 returns-4 c = put-none _ _ _ (c .before .before .before .pre) (mark-none _ (c .before .before .if1 .left) (c .before .if2 .left) (c .if3 .left))
 

@@ -1,35 +1,23 @@
-use mathlib.Core.List.{List, [], _∷_, _++_}
-use mathlib.Core.Path.{_≡_, refl, ap, sym, _∙_}
-use Prim.Native.Nat.{ℕ, _+_, _<_}
+use mathlib.Core.List.{[], _∷_}
+use mathlib.Core.Path.{refl}
 use native.Mathlib.Omega.{arith}
-use lib.ListN.{length}
-use Rattle.sling.specs.Printed.{decimal, markBytes, symbolBytes}
+use Rattle.sling.specs.Printed.{decimal, markBytes}
 use Rattle.writing.proofs.Bytes.{added-one, added-more, room-left, room-right}
-use borrow.Author.Needs.{needs}
 use Rattle.writing.proofs.printed.put_ring.Statement.{statement}
 use Rattle.writing.proofs.printed.put_ring.Tie as tie
-use Rattle.writing.proofs.printed.put_ring.Reads as reads
-use Rattle.writing.proofs.printed.put_ring.Lts as lts
-use Rattle.writing.proofs.printed.put_mark.Reads as put-mark-reads
-use Rattle.writing.proofs.printed.put_place.Reads as put-place-reads
 
--- src/printed.rt:108:9
 put-mark-requires : tie.Need-put-mark-requires
 put-mark-requires c κs = room-left _ _ _ (c .before .pre .1) (markBytes (c .before .args .code)) (47 ∷ decimal (c .before .args .place .0)) refl
 
--- src/printed.rt:109:5
 element-write-buffer : tie.Need-element-write-buffer
 element-write-buffer c = let R = room-right _ _ _ (c .before .before .pre .1) (markBytes (c .before .before .args .code)) (47 ∷ decimal (c .before .before .args .place .0)) refl (c .put-mark .ensures) in omega (arith, R .fits)
 
--- src/printed.rt:110:23
 add-put-place : tie.Need-add-put-place
 add-put-place c = let R = room-right _ _ _ (c .before .before .before .pre .1) (markBytes (c .before .before .before .args .code)) (47 ∷ decimal (c .before .before .before .args .place .0)) refl (c .before .put-mark .ensures) in omega (arith, R .fits)
 
--- src/printed.rt:110:5
 put-place-requires : tie.Need-put-place-requires
 put-place-requires c κs = let R = room-right _ _ _ (c .before .before .before .pre .1) (markBytes (c .before .before .before .args .code)) (47 ∷ decimal (c .before .before .before .args .place .0)) refl (c .before .put-mark .ensures) in (c .before .before .before .pre .0, room-right _ _ _ R (47 ∷ []) (decimal (c .before .before .before .args .place .0)) refl (let R = room-right _ _ _ (c .before .before .before .pre .1) (markBytes (c .before .before .before .args .code)) (47 ∷ decimal (c .before .before .before .args .place .0)) refl (c .before .put-mark .ensures) in added-one _ (c .before .put-mark .result) 47 (R .long) (omega (arith, R .fits))))
 
--- src/printed.rt:104:1
 returns : tie.Need-returns
 returns c = added-more (c .before .before .put-mark .ensures) (added-more (let R = room-right _ _ _ (c .before .before .before .before .pre .1) (markBytes (c .before .before .before .before .args .code)) (47 ∷ decimal (c .before .before .before .before .args .place .0)) refl (c .before .before .put-mark .ensures) in added-one _ (c .before .before .put-mark .result) 47 (R .long) (omega (arith, R .fits))) (c .put-place .ensures))
 

@@ -1,4 +1,4 @@
-use mathlib.Core.List.{List, [], _∷_}
+use mathlib.Core.List.{[], _∷_}
 use mathlib.Core.Path.{_≡_, ap, ap₂, sym, _∙_}
 use Prim.Native.Nat.{ℕ}
 use native.Mathlib.Omega.{arith}
@@ -9,64 +9,46 @@ use Rattle.molecule.specs.Kinds.{symbolOf}
 use borrow.Author.Needs.{needs}
 use Rattle.writing.proofs.printed.put_symbol.Statement.{statement}
 use Rattle.writing.proofs.printed.put_symbol.Tie as tie
-use Rattle.writing.proofs.printed.put_symbol.Reads as reads
-use Rattle.writing.proofs.printed.put_symbol.Lts as lts
-use Rattle.kinds.proofs.capital_of.Reads as capital-of-reads
-use Rattle.kinds.proofs.small_of.Reads as small-of-reads
 
--- src/printed.rt:60:9
 capital-of-requires : tie.Need-capital-of-requires
 capital-of-requires c κs = search needs
 
--- src/printed.rt:61:9
 small-of-requires : tie.Need-small-of-requires
 small-of-requires c κs = search needs
 
--- src/printed.rt:63:9
 element-write-buffer : tie.Need-element-write-buffer
 element-write-buffer c = omega (arith, c .before .before .before .pre .1 .fits, ap length (symbol-one (c .before .before .before .args .kind) (c .before .before .before .pre .0) (sym (c .before .small-of .ensures) ∙ c .if1 .taken)))
 
--- src/printed.rt:64:16
 add-result : tie.Need-add-result
 add-result c = search needs
 
--- src/printed.rt:64:9
 returns : tie.Need-returns
 returns c = put-one _ _ _ (c .before .before .before .pre .1) _ (symbol-one (c .before .before .before .args .kind) (c .before .before .before .pre .0) (sym (c .before .small-of .ensures) ∙ c .if1 .taken) ∙ ap (λ (x : ℕ). x ∷ []) (sym (c .before .before .capital-of .ensures)))
 
--- src/printed.rt:66:5
 element-write-buffer-2 : tie.Need-element-write-buffer-2
 element-write-buffer-2 c = omega (arith, c .before .before .before .pre .1 .fits, ap length (symbol-two (c .before .before .before .args .kind) (c .before .before .before .pre .0) (λ (e : getD (symbolOf (c .before .before .before .args .kind)) 1 0 ≡ 0). c .if1 .left (c .before .small-of .ensures ∙ e))))
 
--- src/printed.rt:67:12
 add-buffer : tie.Need-add-buffer
 add-buffer c = search needs
 
--- src/printed.rt:67:5
 element-write-buffer-3 : tie.Need-element-write-buffer-3
 element-write-buffer-3 c = omega (arith, c .before .before .before .pre .1 .fits, ap length (symbol-two (c .before .before .before .args .kind) (c .before .before .before .pre .0) (λ (e : getD (symbolOf (c .before .before .before .args .kind)) 1 0 ≡ 0). c .if1 .left (c .before .small-of .ensures ∙ e))))
 
--- src/printed.rt:68:12
 add-buffer-2 : tie.Need-add-buffer-2
 add-buffer-2 c = search needs
 
--- src/printed.rt:68:5
 element-write-buffer-4 : tie.Need-element-write-buffer-4
 element-write-buffer-4 c = omega (arith, c .before .before .before .pre .1 .fits, ap length (symbol-two (c .before .before .before .args .kind) (c .before .before .before .pre .0) (λ (e : getD (symbolOf (c .before .before .before .args .kind)) 1 0 ≡ 0). c .if1 .left (c .before .small-of .ensures ∙ e))))
 
--- src/printed.rt:69:12
 add-buffer-3 : tie.Need-add-buffer-3
 add-buffer-3 c = search needs
 
--- src/printed.rt:69:5
 element-write-buffer-5 : tie.Need-element-write-buffer-5
 element-write-buffer-5 c = omega (arith, c .before .before .before .pre .1 .fits, ap length (symbol-two (c .before .before .before .args .kind) (c .before .before .before .pre .0) (λ (e : getD (symbolOf (c .before .before .before .args .kind)) 1 0 ≡ 0). c .if1 .left (c .before .small-of .ensures ∙ e))))
 
--- src/printed.rt:70:5
 add-result-2 : tie.Need-add-result-2
 add-result-2 c = search needs
 
--- src/printed.rt:56:1
 returns-2 : tie.Need-returns-2
 returns-2 c = put-four _ _ _ (c .before .before .before .pre .1) _ _ _ _ (symbol-two (c .before .before .before .args .kind) (c .before .before .before .pre .0) (λ (e : getD (symbolOf (c .before .before .before .args .kind)) 1 0 ≡ 0). c .if1 .left (c .before .small-of .ensures ∙ e)) ∙ ap₂ (λ (x y : ℕ). 40 ∷ x ∷ y ∷ 41 ∷ []) (sym (c .before .before .capital-of .ensures)) (sym (c .before .small-of .ensures)))
 

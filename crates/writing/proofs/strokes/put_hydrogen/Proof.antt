@@ -1,28 +1,15 @@
-use mathlib.Core.Path.{_≡_, refl, ap, sym, _∙_}
-use Prim.Native.Nat.{ℕ, _+_, _-_, _<_, _≤_}
 use native.Mathlib.Omega.{arith}
-use native.Mathlib.Numerals.{add-one}
-use Rattle.sling.specs.Walk.{Written, serve, put, close, putHs}
-use Rattle.writing.specs.Shown.{size, At, Lettered}
-use Rattle.writing.proofs.Further.{further-put, further-hs, hs-room}
-use Rattle.writing.proofs.Served.{putHs-last}
-use borrow.Author.Needs.{needs}
+use Rattle.sling.specs.Walk.{serve, put, close}
+use Rattle.writing.proofs.Further.{further-put}
 use Rattle.writing.proofs.strokes.put_hydrogen.Statement.{statement}
 use Rattle.writing.proofs.strokes.put_hydrogen.Tie as tie
-use Rattle.writing.proofs.strokes.put_hydrogen.Reads as reads
-use Rattle.writing.proofs.strokes.put_hydrogen.Lts as lts
-use Rattle.writing.proofs.strokes.put.Reads as put-reads
-use Rattle.writing.proofs.strokes.serve.Reads as serve-reads
 
--- src/strokes.rt:66:9
 serve-requires : tie.Need-serve-requires
 serve-requires c κs = let q = c .before .pre in (q .0, q .1, q .2, q .3, omega (arith, q .4, further-put 0 0 1 (serve (q .0) (q .1)) .more))
 
--- src/strokes.rt:67:5
 put-requires : tie.Need-put-requires
 put-requires c κs = let q = c .before .before .before .pre in (omega arith, (0, serve (q .0) (q .1), c .before .serve .ensures (q .0) (q .1) (q .2) (q .3) (omega (arith, q .4, further-put 0 0 1 (serve (q .0) (q .1)) .more)), q .4))
 
--- src/strokes.rt:62:1
 returns : tie.Need-returns
 returns c = λ r w l a h. c .put .ensures 0 (serve r w) (c .before .before .serve .ensures r w l a (omega (arith, h, further-put 0 0 1 (serve r w) .more))) h
 

@@ -1,33 +1,26 @@
 use Rattle.writing.proofs.Letters.{letters-hydrogen}
-use mathlib.Core.Path.{_≡_, refl, ap, sym, subst, _∙_}
-use Prim.Native.Nat.{ℕ, _+_, _-_, _<_, _≤_}
+use mathlib.Core.Path.{_≡_, subst}
+use Prim.Native.Nat.{ℕ, _-_, _≤_}
 use native.Mathlib.Omega.{arith}
-use native.Mathlib.Numerals.{add-one}
-use Rattle.sling.specs.Walk.{Written, serve, put, close, putHs}
+use Rattle.sling.specs.Walk.{Written, close, putHs}
 use Rattle.writing.specs.Shown.{size, At, Lettered}
-use Rattle.writing.proofs.Further.{further-put, further-hs, hs-room}
-use Rattle.writing.proofs.Served.{putHs-last}
+use Rattle.writing.proofs.Further.{further-hs, hs-room}
 use borrow.Author.Needs.{needs}
 use Rattle.writing.proofs.strokes.put_hydrogens.Statement.{statement}
 use Rattle.writing.proofs.strokes.put_hydrogens.Tie as tie
-use Rattle.writing.proofs.strokes.put_hydrogens.Reads as reads
-use Rattle.writing.proofs.strokes.put_hydrogens.Lts as lts
-use Rattle.writing.proofs.strokes.put_hydrogen.Reads as put-hydrogen-reads
 
 abbrev Inv-loop : tie.InvT-loop
-Inv-loop buffer₀ place count there₀ h₀ buffer there h =
+Inv-loop buffer₀ place count moved₀ h₀ buffer moved h =
     (h ≤ count)
-    × ((r : ℕ) (w : Written) → Lettered buffer₀ there₀ w → At w r (place .0) → size (putHs count r w) ≤ 2048 → Lettered buffer there (putHs h r w))
+    × ((r : ℕ) (w : Written) → Lettered buffer₀ moved₀ w → At w r (place .0) → size (putHs count r w) ≤ 2048 → Lettered buffer moved (putHs h r w))
 
 abbrev μ-loop : tie.MeasureT-loop
-μ-loop buffer₀ place count there₀ h₀ buffer there h = count - h
+μ-loop buffer₀ place count moved₀ h₀ buffer moved h = count - h
 
--- src/strokes.rt:77:5
 loop-holds : tie.Need-loop-holds Inv-loop μ-loop
 unfolding putHs
 loop-holds c = (omega arith, λ r w l a s. l)
 
--- src/strokes.rt:78:9
 put-hydrogen-requires : tie.Need-put-hydrogen-requires Inv-loop μ-loop
 put-hydrogen-requires c κs =
     let q = c .before .before .before .pre in
@@ -39,15 +32,12 @@ put-hydrogen-requires c κs =
       hs-room (i .h) _ (q .0) (q .1) (c .before .loop-test .taken) (q .4),
     )
 
--- src/strokes.rt:79:9
 add-h : tie.Need-add-h Inv-loop μ-loop
 add-h c = search needs
 
--- src/strokes.rt:77:5
 loop-less : tie.Need-loop-less Inv-loop μ-loop
 loop-less c = omega arith
 
--- src/strokes.rt:77:5
 loop-again : tie.Need-loop-again Inv-loop μ-loop
 loop-again c =
     let i = c .before .before .before .loop in (
@@ -57,12 +47,11 @@ loop-again c =
           (c .put-hydrogen .ensures r (putHs (i .h) r w) (i .inv .1 r w l a s) (further-hs (i .h) r w .kept r _ a) (hs-room (i .h) _ r w (c .before .before .loop-test .taken) s)),
     )
 
--- src/strokes.rt:71:1
 returns : tie.Need-returns Inv-loop μ-loop
 returns c =
     let i = c .before .loop in
     let e : i .h ≡ c .before .before .args .count = omega arith in
-    λ r w l a s. subst (λ (k : ℕ). Lettered (i .buffer) (i .there) (putHs k r w)) e (i .inv .1 r w l a s)
+    λ r w l a s. subst (λ (k : ℕ). Lettered (i .buffer) (i .moved) (putHs k r w)) e (i .inv .1 r w l a s)
 
 pub put-hydrogens-spec : {M : Type 1} → statement M
 put-hydrogens-spec =

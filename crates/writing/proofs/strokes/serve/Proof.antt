@@ -1,26 +1,15 @@
-use mathlib.Core.Path.{_≡_, refl, ap, sym, _∙_}
-use Prim.Native.Nat.{ℕ, _+_, _-_, _<_, _≤_}
-use native.Mathlib.Omega.{arith}
-use native.Mathlib.Numerals.{add-one}
-use Rattle.sling.specs.Walk.{Written, serve, put, close, putHs}
-use Rattle.writing.specs.Shown.{size, At, Lettered}
-use Rattle.writing.proofs.Letters.{place-small, letters-stays, serve-room, letters-goes, put-room, letters-put, close-room, letters-close}
-use borrow.Author.Needs.{needs}
+use mathlib.Core.Path.{refl}
+use Rattle.sling.specs.Walk.{close}
+use Rattle.writing.proofs.Letters.{place-small, letters-stays, serve-room, letters-goes}
 use Rattle.writing.proofs.strokes.serve.Statement.{statement}
 use Rattle.writing.proofs.strokes.serve.Tie as tie
-use Rattle.writing.proofs.strokes.serve.Reads as reads
-use Rattle.writing.proofs.strokes.serve.Lts as lts
-use Rattle.writing.proofs.printed.put_reference.Reads as put-reference-reads
 
--- src/strokes.rt:19:9
 returns : tie.Need-returns
 returns c = λ r w l a h. letters-stays _ _ w l r _ a (c .if1 .taken)
 
--- src/strokes.rt:21:9
 put-reference-requires : tie.Need-put-reference-requires
 put-reference-requires c κs = let q = c .before .before .before .before .before .pre in (place-small _ _ (q .1) (q .0) _ (q .2) (q .3), serve-room _ _ (q .1) (q .2) (q .0) _ (q .3) (c .before .if1 .left) (q .4))
 
--- src/strokes.rt:13:1
 returns-2 : tie.Need-returns-2
 returns-2 c = λ r w l a h. letters-goes _ _ w l r _ a (c .before .before .before .if1 .left) h _ _ (c .before .put-reference .ensures) refl refl refl
 

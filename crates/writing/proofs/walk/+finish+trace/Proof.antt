@@ -1,4 +1,4 @@
-use mathlib.Core.Path.{_≡_, refl, sym, _∙_, subst}
+use mathlib.Core.Path.{_≡_, sym, _∙_, subst}
 use native.Mathlib.Omega.{arith}
 use borrow.Author.Needs.{needs}
 use lib.ListN.{getD, take}
@@ -42,20 +42,19 @@ abbrev trace-below : ℕ → In 4 trace-kinds.ps
 trace-below t = and 4 trace-kinds.ps (falls 4 trace-kinds.ps _<_ μ-trace t) trace.Pre
 
 abbrev finish-Inv-loop : finish-lts.InvT-loop
-finish-Inv-loop kinds hydrogens degrees near codes buffer₀ places₀ traced₀ atom depth a degree there₀ k₀ buffer places traced there k =
+finish-Inv-loop kinds hydrogens degrees near codes buffer₀ places₀ traced₀ atom depth a degree moved₀ k₀ buffer places traced moved k =
     (k ≤ degree)
     × (degree ≡ getD degrees (atom .0) 0)
     × ((W : Molecule) (w : Written)
     → Going (record { kinds = kinds; hydrogens = hydrogens; degrees = degrees; near = near; codes = codes })
-    (record { buffer = buffer₀; places = places₀; traced = traced₀; pen = there₀ }) (atom .0) (depth - 1) W w
-    → Shows (W .size) (record { buffer = buffer; places = places; traced = traced; pen = there })
+    (record { buffer = buffer₀; places = places₀; traced = traced₀; pen = moved₀ }) (atom .0) (depth - 1) W w
+    → Shows (W .size) (record { buffer = buffer; places = places; traced = traced; pen = moved })
     (traces (finish-of (depth - 1) W) W (suc (atom .0)) (take k (neighboursAt W (suc (atom .0)))) w))
 
 abbrev finish-μ-loop : finish-lts.MeasureT-loop
-finish-μ-loop kinds hydrogens degrees near codes buffer₀ places₀ traced₀ atom depth a degree there₀ k₀ buffer places traced there k =
+finish-μ-loop kinds hydrogens degrees near codes buffer₀ places₀ traced₀ atom depth a degree moved₀ k₀ buffer places traced moved k =
     degree - k
 
--- src/walk.rt:34:9
 finish-returns : (t : ℕ) → finish-lts.Need-returns (
   wide-reads.Asked,
   wide-reads.Learnt,
@@ -66,7 +65,6 @@ finish-returns : (t : ℕ) → finish-lts.Need-returns (
 ) (finish-at t) finish.Post finish-Inv-loop finish-μ-loop
 finish-returns t c = λ W w F. finish-none _ _ _ W _ w (c .if1 .taken) (F .shown)
 
--- src/walk.rt:36:13
 finish-cast-a : (t : ℕ) → finish-lts.Need-cast-a (
   wide-reads.Asked,
   wide-reads.Learnt,
@@ -77,7 +75,6 @@ finish-cast-a : (t : ℕ) → finish-lts.Need-cast-a (
 ) (finish-at t) finish.Post finish-Inv-loop finish-μ-loop
 finish-cast-a t c = search needs
 
--- src/walk.rt:37:23
 finish-element-copy-out-wide : (t : ℕ) → finish-lts.Need-element-copy-out-wide (
   wide-reads.Asked,
   wide-reads.Learnt,
@@ -88,7 +85,6 @@ finish-element-copy-out-wide : (t : ℕ) → finish-lts.Need-element-copy-out-wi
 ) (finish-at t) finish.Post finish-Inv-loop finish-μ-loop
 finish-element-copy-out-wide t c = let q = c .before .before .pre .1 in omega (arith, q .2 .atom, q .2 .lent .atoms)
 
--- src/walk.rt:37:9
 finish-wide-requires : (t : ℕ) → finish-lts.Need-wide-requires (
   wide-reads.Asked,
   wide-reads.Learnt,
@@ -99,7 +95,6 @@ finish-wide-requires : (t : ℕ) → finish-lts.Need-wide-requires (
 ) (finish-at t) finish.Post finish-Inv-loop finish-μ-loop
 finish-wide-requires t c κs = search needs
 
--- src/walk.rt:38:58
 finish-mul-t21 : (t : ℕ) → finish-lts.Need-mul-t21 (
   wide-reads.Asked,
   wide-reads.Learnt,
@@ -110,7 +105,6 @@ finish-mul-t21 : (t : ℕ) → finish-lts.Need-mul-t21 (
 ) (finish-at t) finish.Post finish-Inv-loop finish-μ-loop
 finish-mul-t21 t c = let q = c .before .before .before .before .before .pre .1 in omega (arith, q .2 .atom, q .2 .lent .atoms)
 
--- src/walk.rt:38:58
 finish-element-copy-out-t24 : (t : ℕ) → finish-lts.Need-element-copy-out-t24 (
   wide-reads.Asked,
   wide-reads.Learnt,
@@ -121,7 +115,6 @@ finish-element-copy-out-t24 : (t : ℕ) → finish-lts.Need-element-copy-out-t24
 ) (finish-at t) finish.Post finish-Inv-loop finish-μ-loop
 finish-element-copy-out-t24 t c = let q = c .before .before .before .before .before .pre .1 in omega (arith, q .2 .atom, q .2 .lent .atoms)
 
--- src/walk.rt:38:70
 finish-element-copy-out-put-hydrogens : (t : ℕ) → finish-lts.Need-element-copy-out-put-hydrogens (
   wide-reads.Asked,
   wide-reads.Learnt,
@@ -132,7 +125,6 @@ finish-element-copy-out-put-hydrogens : (t : ℕ) → finish-lts.Need-element-co
 ) (finish-at t) finish.Post finish-Inv-loop finish-μ-loop
 finish-element-copy-out-put-hydrogens t c = let q = c .before .before .before .before .before .before .pre .1 in omega (arith, q .2 .atom, q .2 .lent .atoms)
 
--- src/walk.rt:38:9
 finish-put-hydrogens-requires : (t : ℕ) → finish-lts.Need-put-hydrogens-requires (
   wide-reads.Asked,
   wide-reads.Learnt,
@@ -143,7 +135,6 @@ finish-put-hydrogens-requires : (t : ℕ) → finish-lts.Need-put-hydrogens-requ
 ) (finish-at t) finish.Post finish-Inv-loop finish-μ-loop
 finish-put-hydrogens-requires t c κs = let q = c .before .before .before .before .before .before .before .pre .1 in (suc (c .before .before .before .before .before .before .before .args .atom .0), q .1, q .2 .shown .text, finish-here _ _ _ _ (q .0) (q .1) (q .2), hydrogens-room _ _ _ _ (q .0) (q .1) (q .2) (c .before .before .before .before .before .before .if1 .left))
 
--- src/walk.rt:40:5
 finish-loop-holds : (t : ℕ) → finish-lts.Need-loop-holds (
   wide-reads.Asked,
   wide-reads.Learnt,
@@ -154,7 +145,6 @@ finish-loop-holds : (t : ℕ) → finish-lts.Need-loop-holds (
 ) (finish-at t) finish.Post finish-Inv-loop finish-μ-loop
 finish-loop-holds t c = (omega arith, c .before .before .before .before .wide .ensures, λ W w G. subst (Shows (W .size) _) (sym (along-none _ _ _ _ W w G)) (G .shown))
 
--- src/walk.rt:52:13
 finish-sub-trace : (t : ℕ) → finish-lts.Need-sub-trace (
   wide-reads.Asked,
   wide-reads.Learnt,
@@ -165,7 +155,6 @@ finish-sub-trace : (t : ℕ) → finish-lts.Need-sub-trace (
 ) (finish-at t) finish.Post finish-Inv-loop finish-μ-loop
 finish-sub-trace t c = let n : c .before .before .before .before .before .before .before .before .before .before .before .before .before .args .depth ≡ 0 → ⊥ = c .before .before .before .before .before .before .before .before .before .before .before .before .if1 .left in omega arith
 
--- src/walk.rt:41:9
 finish-trace-requires : (t : ℕ) → finish-lts.Need-trace-requires (
   wide-reads.Asked,
   wide-reads.Learnt,
@@ -182,7 +171,6 @@ finish-trace-requires t c κs =
     let h : i .k < getD (c .before .before .before .before .before .before .before .before .before .before .before .before .before .args .degrees .now) (c .before .before .before .before .before .before .before .before .before .before .before .before .before .args .atom .0) 0 = omega (arith, c .before .before .before .loop-test .taken, i .inv .1) in
     (omega (arith, c .before .before .before .before .before .before .before .before .before .before .before .before .before .pre .0), (q .0, _, along-ready _ _ _ _ (q .0) _ G (i .k) _ h (i .inv .2 (q .0) _ G)))
 
--- src/walk.rt:55:9
 finish-add-k : (t : ℕ) → finish-lts.Need-add-k (
   wide-reads.Asked,
   wide-reads.Learnt,
@@ -193,7 +181,6 @@ finish-add-k : (t : ℕ) → finish-lts.Need-add-k (
 ) (finish-at t) finish.Post finish-Inv-loop finish-μ-loop
 finish-add-k t c = let q = c .before .before .before .before .before .before .before .before .before .before .before .before .before .before .pre .1 in let i = c .before .before .before .before .before .loop in omega (arith, c .before .before .before .before .loop-test .taken, i .inv .1, q .2 .lent .few (c .before .before .before .before .before .before .before .before .before .before .before .before .before .before .args .atom .0) (q .2 .atom))
 
--- src/walk.rt:40:5
 finish-loop-less : (t : ℕ) → finish-lts.Need-loop-less (
   wide-reads.Asked,
   wide-reads.Learnt,
@@ -204,7 +191,6 @@ finish-loop-less : (t : ℕ) → finish-lts.Need-loop-less (
 ) (finish-at t) finish.Post finish-Inv-loop finish-μ-loop
 finish-loop-less t c = omega (arith, c .before .before .before .before .loop-test .taken)
 
--- src/walk.rt:40:5
 finish-loop-again : (t : ℕ) → finish-lts.Need-loop-again (
   wide-reads.Asked,
   wide-reads.Learnt,
@@ -221,7 +207,6 @@ finish-loop-again t c =
       λ W w G. subst (Shows (W .size) _) (sym (along-next _ _ _ _ W w G (i .k) h)) (c .trace .ensures W _ (along-ready _ _ _ _ W w G (i .k) _ h (i .inv .2 W w G))),
     )
 
--- src/walk.rt:17:1
 finish-returns-2 : (t : ℕ) → finish-lts.Need-returns-2 (
   wide-reads.Asked,
   wide-reads.Learnt,
@@ -237,7 +222,6 @@ finish-returns-2 t c =
     let h : getD (c .before .before .before .before .before .before .before .before .before .before .args .degrees .now) (c .before .before .before .before .before .before .before .before .before .before .args .atom .0) 0 ≤ i .k = omega (arith, c .loop-test .left, i .inv .1) in
     subst (Shows (W .size) _) (along-end _ _ _ _ W _ G (i .k) h ∙ sym (finish-split _ _ _ _ W w F (c .before .before .before .before .before .before .before .before .before .if1 .left))) (i .inv .2 W _ G)
 
--- src/walk.rt:84:13
 trace-cast-a : (t : ℕ) → trace-lts.Need-cast-a (
   ring-reads.Asked,
   ring-reads.Learnt,
@@ -248,7 +232,6 @@ trace-cast-a : (t : ℕ) → trace-lts.Need-cast-a (
 ) (trace-at t) trace.Post
 trace-cast-a t c = search needs
 
--- src/walk.rt:85:16
 trace-mul-slot : (t : ℕ) → trace-lts.Need-mul-slot (
   ring-reads.Asked,
   ring-reads.Learnt,
@@ -259,7 +242,6 @@ trace-mul-slot : (t : ℕ) → trace-lts.Need-mul-slot (
 ) (trace-at t) trace.Post
 trace-mul-slot t c = let q = c .before .pre .1 in omega (arith, q .2 .atom, q .2 .slot, q .2 .lent .atoms, q .2 .lent .few (c .before .args .atom .0) (q .2 .atom), next-atom _ _ _ _ _ (q .0) (q .1) (q .2))
 
--- src/walk.rt:85:16
 trace-add-slot : (t : ℕ) → trace-lts.Need-add-slot (
   ring-reads.Asked,
   ring-reads.Learnt,
@@ -270,7 +252,6 @@ trace-add-slot : (t : ℕ) → trace-lts.Need-add-slot (
 ) (trace-at t) trace.Post
 trace-add-slot t c = let q = c .before .pre .1 in omega (arith, q .2 .atom, q .2 .slot, q .2 .lent .atoms, q .2 .lent .few (c .before .args .atom .0) (q .2 .atom), next-atom _ _ _ _ _ (q .0) (q .1) (q .2))
 
--- src/walk.rt:86:23
 trace-element-copy-out-if1 : (t : ℕ) → trace-lts.Need-element-copy-out-if1 (
   ring-reads.Asked,
   ring-reads.Learnt,
@@ -281,7 +262,6 @@ trace-element-copy-out-if1 : (t : ℕ) → trace-lts.Need-element-copy-out-if1 (
 ) (trace-at t) trace.Post
 trace-element-copy-out-if1 t c = let q = c .before .pre .1 in omega (arith, q .2 .atom, q .2 .slot, q .2 .lent .atoms, q .2 .lent .few (c .before .args .atom .0) (q .2 .atom), next-atom _ _ _ _ _ (q .0) (q .1) (q .2))
 
--- src/walk.rt:87:13
 trace-cast-s : (t : ℕ) → trace-lts.Need-cast-s (
   ring-reads.Asked,
   ring-reads.Learnt,
@@ -292,7 +272,6 @@ trace-cast-s : (t : ℕ) → trace-lts.Need-cast-s (
 ) (trace-at t) trace.Post
 trace-cast-s t c = search needs
 
--- src/walk.rt:88:15
 trace-mul-if1 : (t : ℕ) → trace-lts.Need-mul-if1 (
   ring-reads.Asked,
   ring-reads.Learnt,
@@ -303,7 +282,6 @@ trace-mul-if1 : (t : ℕ) → trace-lts.Need-mul-if1 (
 ) (trace-at t) trace.Post
 trace-mul-if1 t c = let q = c .before .before .before .pre .1 in omega (arith, q .2 .atom, q .2 .slot, q .2 .lent .atoms, q .2 .lent .few (c .before .before .before .args .atom .0) (q .2 .atom), next-atom _ _ _ _ _ (q .0) (q .1) (q .2))
 
--- src/walk.rt:88:15
 trace-add-if1 : (t : ℕ) → trace-lts.Need-add-if1 (
   ring-reads.Asked,
   ring-reads.Learnt,
@@ -314,7 +292,6 @@ trace-add-if1 : (t : ℕ) → trace-lts.Need-add-if1 (
 ) (trace-at t) trace.Post
 trace-add-if1 t c = let q = c .before .before .before .pre .1 in omega (arith, q .2 .atom, q .2 .slot, q .2 .lent .atoms, q .2 .lent .few (c .before .before .before .args .atom .0) (q .2 .atom), next-atom _ _ _ _ _ (q .0) (q .1) (q .2))
 
--- src/walk.rt:88:8
 trace-element-copy-out-if1-2 : (t : ℕ) → trace-lts.Need-element-copy-out-if1-2 (
   ring-reads.Asked,
   ring-reads.Learnt,
@@ -325,7 +302,6 @@ trace-element-copy-out-if1-2 : (t : ℕ) → trace-lts.Need-element-copy-out-if1
 ) (trace-at t) trace.Post
 trace-element-copy-out-if1-2 t c = let q = c .before .before .before .pre .1 in omega (arith, q .2 .atom, q .2 .slot, q .2 .lent .atoms, q .2 .lent .few (c .before .before .before .args .atom .0) (q .2 .atom), next-atom _ _ _ _ _ (q .0) (q .1) (q .2))
 
--- src/walk.rt:89:9
 trace-returns : (t : ℕ) → trace-lts.Need-returns (
   ring-reads.Asked,
   ring-reads.Learnt,
@@ -336,8 +312,7 @@ trace-returns : (t : ℕ) → trace-lts.Need-returns (
 ) (trace-at t) trace.Post
 trace-returns t c = λ W w T. shows-done _ _ _ _ _ W w T (c .if1 .taken)
 
--- src/walk.rt:91:22
-trace-mul-t20 : (t : ℕ) → trace-lts.Need-mul-t20 (
+trace-element-copy-out-branch : (t : ℕ) → trace-lts.Need-element-copy-out-branch (
   ring-reads.Asked,
   ring-reads.Learnt,
   branch-reads.Asked,
@@ -345,10 +320,9 @@ trace-mul-t20 : (t : ℕ) → trace-lts.Need-mul-t20 (
   finish-below t,
   finish.Post,
 ) (trace-at t) trace.Post
-trace-mul-t20 t c = let q = c .before .before .before .before .before .pre .1 in omega (arith, q .2 .atom, q .2 .slot, q .2 .lent .atoms, q .2 .lent .few (c .before .before .before .before .before .args .atom .0) (q .2 .atom), next-atom _ _ _ _ _ (q .0) (q .1) (q .2))
+trace-element-copy-out-branch t c = let q = c .before .before .before .before .before .pre .1 in omega (arith, q .2 .atom, q .2 .slot, q .2 .lent .atoms, q .2 .lent .few (c .before .before .before .before .before .args .atom .0) (q .2 .atom), next-atom _ _ _ _ _ (q .0) (q .1) (q .2))
 
--- src/walk.rt:91:22
-trace-element-copy-out-t30 : (t : ℕ) → trace-lts.Need-element-copy-out-t30 (
+trace-mul-t21 : (t : ℕ) → trace-lts.Need-mul-t21 (
   ring-reads.Asked,
   ring-reads.Learnt,
   branch-reads.Asked,
@@ -356,10 +330,9 @@ trace-element-copy-out-t30 : (t : ℕ) → trace-lts.Need-element-copy-out-t30 (
   finish-below t,
   finish.Post,
 ) (trace-at t) trace.Post
-trace-element-copy-out-t30 t c = let q = c .before .before .before .before .before .pre .1 in omega (arith, q .2 .atom, q .2 .slot, q .2 .lent .atoms, q .2 .lent .few (c .before .before .before .before .before .args .atom .0) (q .2 .atom), next-atom _ _ _ _ _ (q .0) (q .1) (q .2))
+trace-mul-t21 t c = let q = c .before .before .before .before .before .before .pre .1 in omega (arith, q .2 .atom, q .2 .slot, q .2 .lent .atoms, q .2 .lent .few (c .before .before .before .before .before .before .args .atom .0) (q .2 .atom), next-atom _ _ _ _ _ (q .0) (q .1) (q .2))
 
--- src/walk.rt:92:23
-trace-mul-t24 : (t : ℕ) → trace-lts.Need-mul-t24 (
+trace-element-copy-out-t33 : (t : ℕ) → trace-lts.Need-element-copy-out-t33 (
   ring-reads.Asked,
   ring-reads.Learnt,
   branch-reads.Asked,
@@ -367,10 +340,9 @@ trace-mul-t24 : (t : ℕ) → trace-lts.Need-mul-t24 (
   finish-below t,
   finish.Post,
 ) (trace-at t) trace.Post
-trace-mul-t24 t c = let q = c .before .before .before .before .before .before .pre .1 in omega (arith, q .2 .atom, q .2 .slot, q .2 .lent .atoms, q .2 .lent .few (c .before .before .before .before .before .before .args .atom .0) (q .2 .atom), next-atom _ _ _ _ _ (q .0) (q .1) (q .2))
+trace-element-copy-out-t33 t c = let q = c .before .before .before .before .before .before .pre .1 in omega (arith, q .2 .atom, q .2 .slot, q .2 .lent .atoms, q .2 .lent .few (c .before .before .before .before .before .before .args .atom .0) (q .2 .atom), next-atom _ _ _ _ _ (q .0) (q .1) (q .2))
 
--- src/walk.rt:92:23
-trace-element-copy-out-t30-2 : (t : ℕ) → trace-lts.Need-element-copy-out-t30-2 (
+trace-mul-t25 : (t : ℕ) → trace-lts.Need-mul-t25 (
   ring-reads.Asked,
   ring-reads.Learnt,
   branch-reads.Asked,
@@ -378,10 +350,9 @@ trace-element-copy-out-t30-2 : (t : ℕ) → trace-lts.Need-element-copy-out-t30
   finish-below t,
   finish.Post,
 ) (trace-at t) trace.Post
-trace-element-copy-out-t30-2 t c = let q = c .before .before .before .before .before .before .pre .1 in omega (arith, q .2 .atom, q .2 .slot, q .2 .lent .atoms, q .2 .lent .few (c .before .before .before .before .before .before .args .atom .0) (q .2 .atom), next-atom _ _ _ _ _ (q .0) (q .1) (q .2))
+trace-mul-t25 t c = let q = c .before .before .before .before .before .before .before .pre .1 in omega (arith, q .2 .atom, q .2 .slot, q .2 .lent .atoms, q .2 .lent .few (c .before .before .before .before .before .before .before .args .atom .0) (q .2 .atom), next-atom _ _ _ _ _ (q .0) (q .1) (q .2))
 
--- src/walk.rt:94:71
-trace-element-copy-out-ring : (t : ℕ) → trace-lts.Need-element-copy-out-ring (
+trace-element-copy-out-t33-2 : (t : ℕ) → trace-lts.Need-element-copy-out-t33-2 (
   ring-reads.Asked,
   ring-reads.Learnt,
   branch-reads.Asked,
@@ -389,9 +360,8 @@ trace-element-copy-out-ring : (t : ℕ) → trace-lts.Need-element-copy-out-ring
   finish-below t,
   finish.Post,
 ) (trace-at t) trace.Post
-trace-element-copy-out-ring t c = let q = c .before .before .before .before .before .before .before .before .before .before .before .pre .1 in omega (arith, q .2 .atom, q .2 .slot, q .2 .lent .atoms, q .2 .lent .few (c .before .before .before .before .before .before .before .before .before .before .before .args .atom .0) (q .2 .atom), next-atom _ _ _ _ _ (q .0) (q .1) (q .2))
+trace-element-copy-out-t33-2 t c = let q = c .before .before .before .before .before .before .before .pre .1 in omega (arith, q .2 .atom, q .2 .slot, q .2 .lent .atoms, q .2 .lent .few (c .before .before .before .before .before .before .before .args .atom .0) (q .2 .atom), next-atom _ _ _ _ _ (q .0) (q .1) (q .2))
 
--- src/walk.rt:94:9
 trace-ring-requires : (t : ℕ) → trace-lts.Need-ring-requires (
   ring-reads.Asked,
   ring-reads.Learnt,
@@ -404,10 +374,9 @@ trace-ring-requires t c κs =
     let q = c .before .before .before .before .before .before .before .before .before .before .before .before .pre .1 in (
       omega (arith, q .2 .atom, q .2 .lent .atoms),
       omega (arith, next-atom _ _ _ _ _ (q .0) (q .1) (q .2), q .2 .lent .atoms),
-      (q .1, q .2 .shown .text, trace-here _ _ _ _ _ (q .0) (q .1) (q .2), trace-there _ _ _ _ _ (q .0) (q .1) (q .2) (c .before .before .before .if2 .taken), back-room _ _ _ _ _ (q .0) (q .1) (q .2) (c .before .before .before .before .before .before .before .if1 .left) (c .before .before .before .if2 .taken)),
+      (q .1, q .2 .shown .text, trace-here _ _ _ _ _ (q .0) (q .1) (q .2), trace-there _ _ _ _ _ (q .0) (q .1) (q .2) (c .before .before .if2 .taken), back-room _ _ _ _ _ (q .0) (q .1) (q .2) (c .before .before .before .before .before .before .before .if1 .left) (c .before .before .if2 .taken)),
     )
 
--- src/walk.rt:94:9
 trace-returns-2 : (t : ℕ) → trace-lts.Need-returns-2 (
   ring-reads.Asked,
   ring-reads.Learnt,
@@ -418,21 +387,9 @@ trace-returns-2 : (t : ℕ) → trace-lts.Need-returns-2 (
 ) (trace-at t) trace.Post
 trace-returns-2 t c =
     λ W w T.
-    shows-back _ _ _ _ _ W w T (c .before .before .before .before .before .before .before .before .if1 .left) (c .before .before .before .before .if2 .taken) _ _ _ (c .ring .ensures .0)
-    (c .ring .ensures .1 w (T .shown .text) (trace-here _ _ _ _ _ W w T) (trace-there _ _ _ _ _ W w T (c .before .before .before .before .if2 .taken)) (back-room _ _ _ _ _ W w T (c .before .before .before .before .before .before .before .before .if1 .left) (c .before .before .before .before .if2 .taken)))
+    shows-back _ _ _ _ _ W w T (c .before .before .before .before .before .before .before .before .if1 .left) (c .before .before .before .if2 .taken) _ _ _ (c .ring .ensures .0)
+    (c .ring .ensures .1 w (T .shown .text) (trace-here _ _ _ _ _ W w T) (trace-there _ _ _ _ _ W w T (c .before .before .before .if2 .taken)) (back-room _ _ _ _ _ W w T (c .before .before .before .before .before .before .before .before .if1 .left) (c .before .before .before .if2 .taken)))
 
--- src/walk.rt:97:51
-trace-element-copy-out-branch : (t : ℕ) → trace-lts.Need-element-copy-out-branch (
-  ring-reads.Asked,
-  ring-reads.Learnt,
-  branch-reads.Asked,
-  branch-reads.Learnt,
-  finish-below t,
-  finish.Post,
-) (trace-at t) trace.Post
-trace-element-copy-out-branch t c = let q = c .before .before .before .before .before .before .before .before .before .before .before .before .pre .1 in omega (arith, q .2 .atom, q .2 .slot, q .2 .lent .atoms, q .2 .lent .few (c .before .before .before .before .before .before .before .before .before .before .before .before .args .atom .0) (q .2 .atom), next-atom _ _ _ _ _ (q .0) (q .1) (q .2))
-
--- src/walk.rt:97:64
 trace-element-copy-out-branch-2 : (t : ℕ) → trace-lts.Need-element-copy-out-branch-2 (
   ring-reads.Asked,
   ring-reads.Learnt,
@@ -443,7 +400,6 @@ trace-element-copy-out-branch-2 : (t : ℕ) → trace-lts.Need-element-copy-out-
 ) (trace-at t) trace.Post
 trace-element-copy-out-branch-2 t c = let q = c .before .before .before .before .before .before .before .before .before .before .before .before .before .pre .1 in omega (arith, q .2 .atom, q .2 .slot, q .2 .lent .atoms, q .2 .lent .few (c .before .before .before .before .before .before .before .before .before .before .before .before .before .args .atom .0) (q .2 .atom), next-atom _ _ _ _ _ (q .0) (q .1) (q .2))
 
--- src/walk.rt:96:9
 trace-branch-requires : (t : ℕ) → trace-lts.Need-branch-requires (
   ring-reads.Asked,
   ring-reads.Learnt,
@@ -456,11 +412,10 @@ trace-branch-requires t c κs =
     let q = c .before .before .before .before .before .before .before .before .before .before .before .before .before .before .pre .1 in (
       omega (arith, q .2 .atom, q .2 .lent .atoms),
       omega (arith, next-atom _ _ _ _ _ (q .0) (q .1) (q .2), q .2 .lent .atoms),
-      onward-known _ _ _ _ _ (q .0) (q .1) (q .2) (c .before .before .before .before .before .before .before .before .before .if1 .left) (c .before .before .before .before .before .if2 .left),
-      (q .1, q .2 .shown .text, trace-here _ _ _ _ _ (q .0) (q .1) (q .2), onward-room _ _ _ _ _ (q .0) (q .1) (q .2) (c .before .before .before .before .before .before .before .before .before .if1 .left) (c .before .before .before .before .before .if2 .left)),
+      onward-known _ _ _ _ _ (q .0) (q .1) (q .2) (c .before .before .before .before .before .before .before .before .before .if1 .left) (c .before .before .before .before .if2 .left),
+      (q .1, q .2 .shown .text, trace-here _ _ _ _ _ (q .0) (q .1) (q .2), onward-room _ _ _ _ _ (q .0) (q .1) (q .2) (c .before .before .before .before .before .before .before .before .before .if1 .left) (c .before .before .before .before .if2 .left)),
     )
 
--- src/walk.rt:99:5
 trace-finish-requires : (t : ℕ) → trace-lts.Need-finish-requires (
   ring-reads.Asked,
   ring-reads.Learnt,
@@ -471,9 +426,8 @@ trace-finish-requires : (t : ℕ) → trace-lts.Need-finish-requires (
 ) (trace-at t) trace.Post
 trace-finish-requires t c κs =
     let q = c .before .before .before .before .before .before .before .before .before .before .before .before .before .before .before .before .before .before .pre .1 in
-    (omega (arith, c .before .before .before .before .before .before .before .before .before .before .before .before .before .before .before .before .before .before .pre .0), (q .0, _, onward-ready _ _ _ _ _ (q .0) (q .1) (q .2) (c .before .before .before .before .before .before .before .before .before .before .before .before .before .if1 .left) (c .before .before .before .before .before .before .before .before .before .if2 .left) _ _ _ _ (c .before .before .before .branch .ensures .0) (c .before .before .before .branch .ensures .1) (c .before .before .before .branch .ensures .2 (q .1) (q .2 .shown .text) (trace-here _ _ _ _ _ (q .0) (q .1) (q .2)) (onward-room _ _ _ _ _ (q .0) (q .1) (q .2) (c .before .before .before .before .before .before .before .before .before .before .before .before .before .if1 .left) (c .before .before .before .before .before .before .before .before .before .if2 .left)))))
+    (omega (arith, c .before .before .before .before .before .before .before .before .before .before .before .before .before .before .before .before .before .before .pre .0), (q .0, _, onward-ready _ _ _ _ _ (q .0) (q .1) (q .2) (c .before .before .before .before .before .before .before .before .before .before .before .before .before .if1 .left) (c .before .before .before .before .before .before .before .before .if2 .left) _ _ _ _ (c .before .before .before .branch .ensures .0) (c .before .before .before .branch .ensures .1) (c .before .before .before .branch .ensures .2 (q .1) (q .2 .shown .text) (trace-here _ _ _ _ _ (q .0) (q .1) (q .2)) (onward-room _ _ _ _ _ (q .0) (q .1) (q .2) (c .before .before .before .before .before .before .before .before .before .before .before .before .before .if1 .left) (c .before .before .before .before .before .before .before .before .if2 .left)))))
 
--- src/walk.rt:67:1
 trace-returns-3 : (t : ℕ) → trace-lts.Need-returns-3 (
   ring-reads.Asked,
   ring-reads.Learnt,
@@ -484,8 +438,8 @@ trace-returns-3 : (t : ℕ) → trace-lts.Need-returns-3 (
 ) (trace-at t) trace.Post
 trace-returns-3 t c =
     λ W w T.
-    subst (Shows (W .size) _) (sym (onward-is _ _ _ _ _ W w T (c .before .before .before .before .before .before .before .before .before .before .before .before .before .before .if1 .left) (c .before .before .before .before .before .before .before .before .before .before .if2 .left)))
-    (c .finish .ensures W _ (onward-ready _ _ _ _ _ W w T (c .before .before .before .before .before .before .before .before .before .before .before .before .before .before .if1 .left) (c .before .before .before .before .before .before .before .before .before .before .if2 .left) _ _ _ _ (c .before .before .before .before .branch .ensures .0) (c .before .before .before .before .branch .ensures .1) (c .before .before .before .before .branch .ensures .2 w (T .shown .text) (trace-here _ _ _ _ _ W w T) (onward-room _ _ _ _ _ W w T (c .before .before .before .before .before .before .before .before .before .before .before .before .before .before .if1 .left) (c .before .before .before .before .before .before .before .before .before .before .if2 .left)))))
+    subst (Shows (W .size) _) (sym (onward-is _ _ _ _ _ W w T (c .before .before .before .before .before .before .before .before .before .before .before .before .before .before .if1 .left) (c .before .before .before .before .before .before .before .before .before .if2 .left)))
+    (c .finish .ensures W _ (onward-ready _ _ _ _ _ W w T (c .before .before .before .before .before .before .before .before .before .before .before .before .before .before .if1 .left) (c .before .before .before .before .before .before .before .before .before .if2 .left) _ _ _ _ (c .before .before .before .before .branch .ensures .0) (c .before .before .before .before .branch .ensures .1) (c .before .before .before .before .branch .ensures .2 w (T .shown .text) (trace-here _ _ _ _ _ W w T) (onward-room _ _ _ _ _ W w T (c .before .before .before .before .before .before .before .before .before .before .before .before .before .before .if1 .left) (c .before .before .before .before .before .before .before .before .before .if2 .left)))))
 
 pub +finish+trace-spec : {M : Type 1} → statement M
 +finish+trace-spec = close μ-finish μ-trace (λ t. finish-lts.spec (
@@ -534,14 +488,13 @@ pub +finish+trace-spec : {M : Type 1} → statement M
     (trace-add-if1 t)
     (trace-element-copy-out-if1-2 t)
     (trace-returns t)
-    (trace-mul-t20 t)
-    (trace-element-copy-out-t30 t)
-    (trace-mul-t24 t)
-    (trace-element-copy-out-t30-2 t)
-    (trace-element-copy-out-ring t)
+    (trace-element-copy-out-branch t)
+    (trace-mul-t21 t)
+    (trace-element-copy-out-t33 t)
+    (trace-mul-t25 t)
+    (trace-element-copy-out-t33-2 t)
     (trace-ring-requires t)
     (trace-returns-2 t)
-    (trace-element-copy-out-branch t)
     (trace-element-copy-out-branch-2 t)
     (trace-branch-requires t)
     (trace-finish-requires t)

@@ -1,0 +1,11 @@
+pub mod Layouts
+pub mod Faults
+pub mod Holding
+pub mod Judged
+pub mod Alike
+pub mod Filling
+pub mod Bonding
+pub mod Whole
+pub mod Written
+pub mod Lengths
+pub mod CardWritten
