@@ -1,27 +1,24 @@
 -- The bytes written from the table's arrays are those of the rules' card.
 use mathlib.Core.Bool.{Bool, true, false, cond}
-use mathlib.Core.List.{List, [], _∷_, _++_, map, flatten, map-append, append-nil, append-assoc}
+use mathlib.Core.List.{List, [], _∷_, _++_, map, flatten, map-append, append-assoc}
 use mathlib.Core.Path.{_≡_, refl, sym, _∙_, ap, ap₂, subst}
 use Prim.Native.Nat.{ℕ, zero, suc, _+_, _*_, _/_, _%_, _<_, _≤_}
-use native.Mathlib.Nat.{zero-add}
 use native.Mathlib.Omega.{arith}
 use lib.Dec.{ltb}
 use lib.ListN.{length, getD, take, drop, length-append}
-use lib.Seq.{sets, sets-eq, take-suc, take-length}
+use lib.Seq.{sets-eq, take-suc, take-length}
 use borrow.Author.Tests.{lt-ltb, le-ltb}
 use Rattle.lists.specs.Upto.{upto, each, sum}
 use Rattle.lists.specs.Tests.{keep}
 use Rattle.lists.proofs.Upto.{each-eq}
 use Rattle.lists.proofs.Sums.{sum-eq, sum-le, sum-const}
 use Rattle.lists.proofs.Steps.{each-zero, keep-append, flatten-append, flatten-next}
-use Rattle.molecule.specs.Molecule.{neighbours}
 use Rattle.molecule.specs.Written.{field, atomBytes, bondBytes, cardBytes}
 use Rattle.lists.proofs.Upto.{length-upto}
 use Rattle.lists.proofs.Flattened.{length-pieces}
 use Rattle.table.specs.Arrays.{Arrays, Tidy, HasRow, rowIn, asMolecule}
 use Rattle.table.proofs.RowLaws.{row-at}
 use Rattle.table.proofs.Views.{near-long, code-slot, neighbours-row, tidy-row}
-use Rattle.card.specs.declared.Output.{Output}
 use Rattle.card.specs.Writing.{atomPiece, bondPiece, slotPiece, rowBytes, rowLength, Wrote, IsWritten}
 use Rattle.card.proofs.Written.{wrote-more, pieces-length}
 use Rattle.card.proofs.Lengths.{row-low, row-length}

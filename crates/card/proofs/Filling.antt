@@ -6,12 +6,11 @@ use mathlib.Core.Path.{_≡_, refl, sym, _∙_, ap, ap₂, subst}
 use Prim.Native.Nat.{ℕ, suc, _+_, _*_, _<_, _≤_}
 use native.Mathlib.Omega.{arith}
 use lib.Dec.{ltb}
-use lib.ListN.{length, set}
+use lib.ListN.{set}
 use borrow.Author.Tests.{lt-ltb, le-ltb, ltb-false}
 use Rattle.lists.specs.Upto.{each, sum}
 use Rattle.lists.proofs.Steps.{each-zero, sum-next}
 use Rattle.molecule.specs.Kinds.{isKind}
-use Rattle.molecule.specs.Refusals.{orNext}
 use Rattle.molecule.specs.Layout.{atomCount, kindAt, hydrogensAt}
 use Rattle.molecule.specs.Judged.{atomFault, atomsFault, totalFault}
 use Rattle.table.specs.declared.Table.{Table}

@@ -1,14 +1,14 @@
 -- The table while a card is read: empty, with one more atom, with one more bond, and with all of them.
 use mathlib.Core.Bool.{Bool, true, false, cond, not, _||_, or-true, or-false, true≢false}
 use mathlib.Core.List.{List, [], _∷_, _++_, map, map-append}
-use mathlib.Core.Logic.{_⊎_, inl, inr}
+use mathlib.Core.Logic.{inl, inr}
 use mathlib.Core.Path.{_≡_, refl, sym, _∙_, ap, subst}
 use Prim.Native.Nat.{ℕ, suc, _+_, _<_, _≤_}
-use native.Mathlib.Decide.{ℕ-discrete, decLt}
+use native.Mathlib.Decide.{ℕ-discrete}
 use native.Mathlib.Omega.{arith}
 use lib.Dec.{eqb}
-use lib.ListN.{length, getD}
-use borrow.Author.Tests.{eq-eqb, ne-eqb, eqb-true, eqb-false, not-false}
+use lib.ListN.{length}
+use borrow.Author.Tests.{ne-eqb, eqb-true, not-false}
 use Rattle.lists.specs.Tests.{count, some}
 use Rattle.lists.proofs.Steps.{each-zero, each-next, some-append, count-append}
 use Rattle.molecule.specs.Bonds.{Bond, on, joins, codeIn}

@@ -2,10 +2,10 @@
 use mathlib.Core.Bool.{Bool, true, false, cond, not, _||_}
 use mathlib.Core.List.{List, map}
 use mathlib.Core.Path.{_≡_, refl, sym, _∙_, ap}
-use Prim.Native.Nat.{ℕ, _+_, _*_, _<_}
+use Prim.Native.Nat.{ℕ, _<_}
 use native.Mathlib.Omega.{arith}
 use lib.Dec.{eqb, leb, ltb}
-use lib.ListN.{length, getD}
+use lib.ListN.{getD}
 use borrow.Author.Tests.{leb-false}
 use Rattle.lists.specs.Tests.{count, some}
 use Rattle.lists.proofs.Booleans.{or-neither}
@@ -14,7 +14,7 @@ use Rattle.molecule.specs.Layout.{atomCount, bondAt, bondsTo}
 use Rattle.molecule.specs.Judged.{bondFault}
 use Rattle.table.specs.declared.Table.{Table}
 use Rattle.table.specs.Arrays.{asMolecule, codeFound}
-use Rattle.table.specs.View.{arraysOf, viewOf}
+use Rattle.table.specs.View.{arraysOf}
 use Rattle.table.proofs.Views.{degree-row}
 use Rattle.card.specs.Tests.{bondTested}
 use Rattle.card.specs.Reading.{Holds}
@@ -36,9 +36,9 @@ module _ (s : List ℕ) (k : ℕ) (t : Table) (H : Holds s (atomCount s) k t) wh
     where
       go : (p : Bool) → (leb (atomCount s) (b .one) || leb (atomCount s) (b .two)) ≡ p
           → cond {A = ℕ} p 5 (cond (eqb (b .one) (b .two) || not (eqb (codeFound (t .degrees) (t .near) (t .codes) (b .one) (b .two)) 0) || eqb (b .code) 0 || ltb 4 (b .code)) 6
-                (cond (leb 6 (getD (t .degrees) (b .one) 0) || leb 6 (getD (t .degrees) (b .two) 0)) 4 0))
-              ≡ cond p 5 (cond (eqb (b .one) (b .two) || some (map (joins (b .one) (b .two)) (bondsTo s k)) || eqb (b .code) 0 || ltb 4 (b .code)) 6
-                (cond (leb 6 (count (map (on (b .one)) (bondsTo s k))) || leb 6 (count (map (on (b .two)) (bondsTo s k)))) 4 0))
+          (cond (leb 6 (getD (t .degrees) (b .one) 0) || leb 6 (getD (t .degrees) (b .two) 0)) 4 0))
+          ≡ cond p 5 (cond (eqb (b .one) (b .two) || some (map (joins (b .one) (b .two)) (bondsTo s k)) || eqb (b .code) 0 || ltb 4 (b .code)) 6
+          (cond (leb 6 (count (map (on (b .one)) (bondsTo s k))) || leb 6 (count (map (on (b .two)) (bondsTo s k)))) 4 0))
       go true e = refl
       go false e =
           let w = or-neither (leb (atomCount s) (b .one)) (leb (atomCount s) (b .two)) e in

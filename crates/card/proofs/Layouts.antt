@@ -1,14 +1,14 @@
 -- A card's layout: each test that fails breaks it, all that pass make it sound, and a sound one says where everything stands.
-use mathlib.Core.Bool.{Bool, true, false, _&&_, and-false, true≢false}
+use mathlib.Core.Bool.{true, false, and-false, true≢false}
 use mathlib.Core.List.{List}
-use mathlib.Core.Path.{_≡_, refl, sym, _∙_, ap}
-use Prim.Native.Nat.{ℕ, _+_, _*_, _/_, _%_, _<_}
+use mathlib.Core.Path.{_≡_, sym, _∙_, ap}
+use Prim.Native.Nat.{ℕ, _+_, _*_, _/_, _%_}
 use native.Mathlib.Omega.{arith}
 use lib.Dec.{eqb}
 use lib.ListN.{length, getD}
 use borrow.Author.Tests.{eq-eqb, ne-eqb, eqb-true}
 use Rattle.lists.proofs.Booleans.{and-both}
-use Rattle.molecule.specs.Layout.{lengthAt, atomsLength, bondsLength, inLayout, atomCount, bondCount}
+use Rattle.molecule.specs.Layout.{atomsLength, bondsLength, inLayout, atomCount, bondCount}
 use Rattle.card.specs.declared.layout.Fields.{Fields}
 use Rattle.card.specs.Tests.{AreFields}
 

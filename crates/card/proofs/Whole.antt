@@ -6,17 +6,14 @@ use mathlib.Core.Path.{_≡_, refl, sym, _∙_, ap, ap₂}
 use Prim.Native.Nat.{ℕ, zero, suc, _<_, _≤_}
 use native.Mathlib.Omega.{arith}
 use lib.Dec.{eqb, ltb}
-use lib.ListN.{length}
 use borrow.Author.Tests.{eqb-false, ltb-false}
-use Rattle.lists.proofs.Booleans.{or-neither}
 use Rattle.molecule.specs.Molecule.{connected}
 use Rattle.molecule.specs.Refusals.{orNext}
 use Rattle.molecule.specs.Layout.{inLayout, atomCount, bondCount}
-use Rattle.molecule.specs.Judged.{moleculeOf, countsFault, atomsFault, totalFault, bondsFault, apartFault, contentFault, cardFault}
+use Rattle.molecule.specs.Judged.{countsFault, atomsFault, totalFault, bondsFault, apartFault, contentFault, cardFault}
 use Rattle.molecule.proofs.Sound.{Sound}
 use Rattle.molecule.proofs.Alike.{sound-along}
 use Rattle.molecule.proofs.Checked.{well-formed-sound}
-use Rattle.table.specs.declared.Table.{Table}
 use Rattle.table.specs.View.{viewOf, TidyTable, EvenTable}
 use Rattle.card.specs.declared.CardRead.{CardRead}
 use Rattle.card.specs.Reading.{Holds, AtomsRead, BondsRead, IsRead}

@@ -1,8 +1,8 @@
 -- What the reader of a card gives: a refusal, and where there is none a table whose view is the card's molecule.
-use mathlib.Core.Bool.{true, not}
+use mathlib.Core.Bool.{not}
 use mathlib.Core.List.{List, [], _∷_, map}
 use mathlib.Core.Path.{_≡_}
-use Prim.Native.Nat.{ℕ, _<_, _≤_}
+use Prim.Native.Nat.{ℕ, _<_}
 use lib.Dec.{eqb}
 use lib.ListN.{length}
 use Rattle.lists.specs.Tests.{count, some}
@@ -10,7 +10,7 @@ use Rattle.molecule.specs.Bonds.{on, joins, codeIn}
 use Rattle.molecule.specs.Molecule.{neighbours}
 use Rattle.molecule.specs.Renumbering.{Renumbered}
 use Rattle.molecule.specs.Refusals.{orNext}
-use Rattle.molecule.specs.Layout.{inLayout, atomCount, kindAt, hydrogensAt, bondCount, bondsTo}
+use Rattle.molecule.specs.Layout.{atomCount, kindAt, hydrogensAt, bondCount, bondsTo}
 use Rattle.molecule.specs.Judged.{moleculeOf, atomsFault, totalFault, bondsFault, cardFault}
 use Rattle.table.specs.declared.Table.{Table}
 use Rattle.table.specs.View.{viewOf, TidyTable}

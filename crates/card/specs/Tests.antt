@@ -1,5 +1,5 @@
 -- What a card's layout gives, and the tests of an atom and of a bond over bytes and lent arrays.
-use mathlib.Core.Bool.{Bool, true, cond, not, _||_}
+use mathlib.Core.Bool.{true, cond, not, _||_}
 use mathlib.Core.List.{List}
 use mathlib.Core.Path.{_≡_}
 use Prim.Native.Nat.{ℕ, _<_}

@@ -5,9 +5,9 @@ ghost use Prim.Native.Nat.{_≤_};
 ghost use Rattle.molecule.specs.Layout.{inLayout, atomCount};
 ghost use Rattle.card.specs.Tests.{atomTested};
 ghost use Rattle.card.specs.Reading.{AtomsRead};
+use super::CardRead;
 use super::refused;
 use super::wide;
-use super::CardRead;
 use table::Table;
 
 // 3 for its kind, then 4 for its hydrogens.

@@ -7,14 +7,22 @@ ghost use Rattle.table.specs.Arrays.{HasRow};
 ghost use Rattle.table.specs.Changes.{bondOf};
 ghost use Rattle.card.specs.Tests.{bondTested};
 ghost use Rattle.card.specs.Reading.{Holds, BondsRead};
+use super::CardRead;
 use super::refused;
 use super::wide;
-use super::CardRead;
 use table::AtomNo;
 use table::Table;
 
 // 5 for an atom that is not there; 6 for a bond to itself, a second one on the pair, a code not 1 to 4; 4 for a seventh on an atom.
-fn bond_fault<'a>(n: usize, degrees: &'a [u8; Table::MAX_ATOMS], near: &'a [u8; Table::SLOTS], codes: &'a [u8; Table::SLOTS], a: AtomNo, b: AtomNo, code: u8) -> u8
+fn bond_fault<'a>(
+    n: usize,
+    degrees: &'a [u8; Table::MAX_ATOMS],
+    near: &'a [u8; Table::SLOTS],
+    codes: &'a [u8; Table::SLOTS],
+    a: AtomNo,
+    b: AtomNo,
+    code: u8,
+) -> u8
     requires { ⌜ ((x : ℕ) → x < n → HasRow (now degrees) (now near) x) ⌝ }
     ensures { λ r. ⌜ r ≡ bondTested n (now (degrees .entry)) (now (near .entry)) (now (codes .entry)) (bondOf (a .0) (b .0) code) ⌝ }
 {

@@ -8,9 +8,9 @@ ghost use Rattle.card.specs.Reading.{IsRead};
 ghost use Rattle.card.specs.Writing.{IsWritten};
 use table::Table;
 
-mod layout;
 mod atoms;
 mod bonds;
+mod layout;
 mod writing;
 
 // A refusal, 0 where there is none, and then the table.
@@ -86,8 +86,5 @@ pub fn write(t: Table, out: &mut [u8]) -> Output
     let at_second = writing::write_atoms(out, at_atoms, n, &t.kinds, &t.hydrogens);
     let at_bonds = writing::write_head(out, at_second, 2, bonds);
     writing::write_bonds(out, at_bonds, n, &t.degrees, &t.near, &t.codes);
-    Output {
-        refusal: 0,
-        length,
-    }
+    Output { refusal: 0, length }
 }

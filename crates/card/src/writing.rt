@@ -31,7 +31,13 @@ pub fn write_head(out: &mut [u8], at: usize, tag: u8, size: usize) -> usize
 }
 
 // Two bytes for each atom.
-pub fn write_atoms<'a>(out: &mut [u8], at: usize, n: usize, kinds: &'a [u8; Table::MAX_ATOMS], hydrogens: &'a [u8; Table::MAX_ATOMS]) -> usize
+pub fn write_atoms<'a>(
+    out: &mut [u8],
+    at: usize,
+    n: usize,
+    kinds: &'a [u8; Table::MAX_ATOMS],
+    hydrogens: &'a [u8; Table::MAX_ATOMS],
+) -> usize
     requires { ⌜ (at + 2 * n ≤ length (now out)) × (n ≤ 64) × ((a : ℕ) → a < n → getD (now kinds) a 0 ≤ 24) ⌝ }
     ensures { λ r. ⌜ Wrote (now (out .entry)) at (flatten (each n (atomPiece (now (kinds .entry)) (now (hydrogens .entry))))) (now (out .exit)) r ⌝ }
 {
@@ -60,7 +66,14 @@ fn write_bond(out: &mut [u8], at: usize, a: AtomNo, b: AtomNo, code: u8) -> usiz
 }
 
 // The bonds of a to higher atoms, ascending.
-fn write_row<'a>(out: &mut [u8], at: usize, degrees: &'a [u8; Table::MAX_ATOMS], near: &'a [u8; Table::SLOTS], codes: &'a [u8; Table::SLOTS], a: AtomNo) -> usize
+fn write_row<'a>(
+    out: &mut [u8],
+    at: usize,
+    degrees: &'a [u8; Table::MAX_ATOMS],
+    near: &'a [u8; Table::SLOTS],
+    codes: &'a [u8; Table::SLOTS],
+    a: AtomNo,
+) -> usize
     requires { ⌜ HasRow (now degrees) (now near) (a .0) × (at + length (rowBytes (now degrees) (now near) (now codes) (a .0)) ≤ length (now out)) ⌝ }
     ensures { λ r. ⌜ Wrote (now (out .entry)) at (rowBytes (now (degrees .entry)) (now (near .entry)) (now (codes .entry)) (a .0)) (now (out .exit)) r ⌝ }
 {
@@ -77,7 +90,14 @@ fn write_row<'a>(out: &mut [u8], at: usize, degrees: &'a [u8; Table::MAX_ATOMS],
 }
 
 // The bonds of all atoms, ascending by first then second atom.
-pub fn write_bonds<'a>(out: &mut [u8], at: usize, n: usize, degrees: &'a [u8; Table::MAX_ATOMS], near: &'a [u8; Table::SLOTS], codes: &'a [u8; Table::SLOTS]) -> usize
+pub fn write_bonds<'a>(
+    out: &mut [u8],
+    at: usize,
+    n: usize,
+    degrees: &'a [u8; Table::MAX_ATOMS],
+    near: &'a [u8; Table::SLOTS],
+    codes: &'a [u8; Table::SLOTS],
+) -> usize
     requires { ⌜ ((a : ℕ) → a < n → HasRow (now degrees) (now near) a) × (at + length (flatten (each n (rowBytes (now degrees) (now near) (now codes)))) ≤ length (now out)) ⌝ }
     ensures { λ r. ⌜ Wrote (now (out .entry)) at (flatten (each n (rowBytes (now (degrees .entry)) (now (near .entry)) (now (codes .entry))))) (now (out .exit)) r ⌝ }
 {
@@ -99,7 +119,11 @@ fn piece_length(a: AtomNo, b: AtomNo) -> usize
     0
 }
 
-fn row_length<'a>(degrees: &'a [u8; Table::MAX_ATOMS], near: &'a [u8; Table::SLOTS], a: AtomNo) -> usize
+fn row_length<'a>(
+    degrees: &'a [u8; Table::MAX_ATOMS],
+    near: &'a [u8; Table::SLOTS],
+    a: AtomNo,
+) -> usize
     requires { ⌜ HasRow (now degrees) (now near) (a .0) ⌝ }
     ensures { λ r. ⌜ r ≡ rowLength (now (degrees .entry)) (now (near .entry)) (a .0) ⌝ }
 {
@@ -115,7 +139,11 @@ fn row_length<'a>(degrees: &'a [u8; Table::MAX_ATOMS], near: &'a [u8; Table::SLO
 }
 
 // How many bytes all bonds take.
-pub fn bonds_length<'a>(n: usize, degrees: &'a [u8; Table::MAX_ATOMS], near: &'a [u8; Table::SLOTS]) -> usize
+pub fn bonds_length<'a>(
+    n: usize,
+    degrees: &'a [u8; Table::MAX_ATOMS],
+    near: &'a [u8; Table::SLOTS],
+) -> usize
     requires { ⌜ (n ≤ 64) × ((a : ℕ) → a < n → HasRow (now degrees) (now near) a) ⌝ }
     ensures { λ r. ⌜ r ≡ sum (each n (rowLength (now (degrees .entry)) (now (near .entry)))) ⌝ }
 {

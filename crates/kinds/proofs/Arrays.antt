@@ -155,8 +155,8 @@ no-capital c s h =
     (λ l.
     let e = first-at (kindOfSymbol (c ∷ s)) l ∙ ap (λ (r : List ℕ). getD r 0 0) (symbolOf-kindOfSymbol (c ∷ s) l) in
     let w =
-        and-both (leb 65 (getD capitals (kindOfSymbol (c ∷ s)) 0)) (leb (getD capitals (kindOfSymbol (c ∷ s)) 0) 90)
-        (every-true-below 25 (λ k. leb 65 (getD capitals k 0) && leb (getD capitals k 0) 90) all-capitals (kindOfSymbol (c ∷ s)) (omega arith)) in
+    and-both (leb 65 (getD capitals (kindOfSymbol (c ∷ s)) 0)) (leb (getD capitals (kindOfSymbol (c ∷ s)) 0) 90)
+    (every-true-below 25 (λ k. leb 65 (getD capitals k 0) && leb (getD capitals k 0) 90) all-capitals (kindOfSymbol (c ∷ s)) (omega arith)) in
     h (omega (arith, leb-true 65 (getD capitals (kindOfSymbol (c ∷ s)) 0) (w .0))) (omega (arith, leb-true (getD capitals (kindOfSymbol (c ∷ s)) 0) 90 (w .1))))
 
 module _ (c d : ℕ) where

@@ -4,18 +4,18 @@ use mathlib.Core.List.{List, [], _∷_, List·Memᴰ, List·Memᴰ·head, List·
 use mathlib.Core.Logic.{_≢_, _⊎_, inl, inr}
 use mathlib.Core.Path.{_≡_, refl, sym, _∙_, ap, subst}
 use Prim.Native.Nat.{ℕ, zero, suc, _+_, _*_, _<_, _≤_}
-use native.Mathlib.Decide.{ℕ-discrete, decLt}
+use native.Mathlib.Decide.{ℕ-discrete}
 use native.Mathlib.Nat.{not-suc-le-zero}
 use native.Mathlib.Omega.{arith}
 use lib.Dec.{eqb}
-use lib.ListN.{length, getD, set, replicate}
+use lib.ListN.{getD, set, replicate}
 use lib.Seq.{getD-set-same, getD-set-other}
-use borrow.Author.Tests.{eq-eqb, ne-eqb, eqb-false, not-true, not-false}
+use borrow.Author.Tests.{eq-eqb, ne-eqb, not-false}
 use Rattle.lists.specs.Upto.{each}
 use Rattle.lists.specs.Tests.{count}
 use Rattle.lists.proofs.Steps.{count-next}
 use Rattle.lists.proofs.Counts.{count-eq, count-none, count-one, count-below, count-fewer}
-use Rattle.molecule.specs.Molecule.{Molecule, neighbours, connected}
+use Rattle.molecule.specs.Molecule.{Molecule, connected}
 use Rattle.molecule.proofs.Neighbours.{mem-neighbours, of-neighbours}
 use Rattle.molecule.proofs.Connected.{Even, Closed, connected-linked, linked-connected}
 use Rattle.molecule.proofs.Sound.{Linked}
@@ -180,8 +180,7 @@ module _ (t : Arrays) where
     pub flood-row : (f : Flood) (head : ℕ) → Flooded f → head < f .end → HasRow (t .degrees) (t .near) (getD (f .queue) head 0)
         × ((p : ℕ) → p < getD (t .degrees) (getD (f .queue) head 0) 0 → getD (t .near) (6 * getD (f .queue) head 0 + p) 0 < 64)
     flood-row f head F h =
-        let l = F .inside (getD (f .queue) head 0) (F .there head h) in
-        (
+        let l = F .inside (getD (f .queue) head 0) (F .there head h) in (
           record { atom = omega (arith, T .atoms); few = T .few _ l; long = T .nearLong },
           λ p m. omega (arith, T .atoms, T .inside (getD (f .queue) head 0) p l m),
         )
@@ -193,8 +192,8 @@ module _ (t : Arrays) where
         let a = getD (f .queue) head 0 in
         let e = F .there head h in
         let w =
-            seeAll-flooded (row a) f F
-            (λ b m. let n = neighbour f F a b e m in (n .0, λ S z c. c a b (F .inside a e) (n .0) (F .forced a e S z c) (n .1))) in
+        seeAll-flooded (row a) f F
+        (λ b m. let n = neighbour f F a b e m in (n .0, λ S z c. c a b (F .inside a e) (n .0) (F .forced a e S z c) (n .1))) in
         (omega (arith, w .1 .end), w .0, λ i b l m. go i b (w .1) (w .2) (omega arith) (ℕ-discrete i head) m)
       where
         go : (i b : ℕ) → Grows f (seeAll f (row (getD (f .queue) head 0)))

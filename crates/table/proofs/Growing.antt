@@ -1,14 +1,13 @@
 -- A table with one more atom: the rows of the others stay, and the new one's is empty.
-use mathlib.Core.List.{List, [], _∷_}
+use mathlib.Core.List.{[], _∷_}
 use mathlib.Core.Path.{_≡_, sym, _∙_, ap}
 use Prim.Native.Nat.{ℕ, suc, _+_, _*_, _<_, _≤_}
 use native.Mathlib.Decide.{ℕ-discrete}
 use native.Mathlib.Omega.{arith}
 use lib.Dec.{eqb}
-use lib.ListN.{length, getD, take, drop, set, length-set}
+use lib.ListN.{getD, take, drop, set, length-set}
 use lib.Seq.{getD-set-same, getD-set-other}
 use Rattle.lists.specs.Tests.{find}
-use Rattle.molecule.specs.Molecule.{Molecule, neighbours}
 use Rattle.table.specs.Arrays.{Arrays, Tidy, codeFound, asMolecule}
 use Rattle.table.specs.Changes.{Grown}
 use Rattle.table.proofs.Views.{code-none, degree-row}

@@ -1,15 +1,12 @@
 -- A bond is two halves: each of its atoms in the row of the other.
-use mathlib.Core.Bool.{Bool, true, false, cond, _&&_, _||_, and-false}
-use mathlib.Core.Logic.{_≢_}
+use mathlib.Core.Bool.{Bool, true, false, cond, _&&_, _||_}
 use mathlib.Core.Path.{_≡_, refl, sym, _∙_, ap, ap₂}
 use Prim.Native.Nat.{ℕ, _+_, _<_}
-use native.Mathlib.Decide.{ℕ-discrete}
 use native.Mathlib.Omega.{arith}
 use lib.Dec.{eqb}
-use lib.ListN.{length}
-use borrow.Author.Tests.{eq-eqb, ne-eqb, eqb-true}
-use Rattle.molecule.specs.Bonds.{Bond, on, joins}
-use Rattle.molecule.specs.Molecule.{Molecule, neighbours}
+use borrow.Author.Tests.{ne-eqb, eqb-true}
+use Rattle.molecule.specs.Bonds.{Bond}
+use Rattle.molecule.specs.Molecule.{Molecule}
 use Rattle.molecule.proofs.BondLists.{joins-swap}
 use Rattle.molecule.proofs.Connected.{Even}
 use Rattle.table.specs.Changes.{bondOf, Joinable, Joined, HalfJoinable, HalfJoined}

@@ -1,19 +1,18 @@
 -- What a tidy table's arrays say of its molecule: an atom's neighbours are its row, and the code stands beside the neighbour.
-use mathlib.Core.Bool.{Bool, true, false, not}
+use mathlib.Core.Bool.{not}
 use mathlib.Core.List.{List, map}
 use mathlib.Core.Logic.{_≢_, _⊎_, inl, inr}
-use mathlib.Core.Path.{_≡_, refl, sym, _∙_, ap, subst}
-use Prim.Native.Nat.{ℕ, zero, suc, _+_, _*_, _<_, _≤_}
+use mathlib.Core.Path.{_≡_, sym, _∙_, ap, subst}
+use Prim.Native.Nat.{ℕ, zero, suc, _+_, _*_, _<_}
 use native.Mathlib.Decide.{decLt, ℕ-discrete}
 use native.Mathlib.Omega.{arith}
 use lib.Dec.{eqb}
 use lib.ListN.{length, getD, List·getD-eq-default}
 use borrow.Author.Tests.{eq-eqb, ne-eqb, eqb-true, eqb-false}
 use Rattle.lists.specs.Upto.{upto}
-use Rattle.lists.specs.Tests.{keep, some, find}
-use Rattle.lists.proofs.Upto.{of-upto}
+use Rattle.lists.specs.Tests.{some, find}
 use Rattle.lists.proofs.Kept.{keep-eq}
-use Rattle.lists.proofs.Tested.{some-pass, some-true}
+use Rattle.lists.proofs.Tested.{some-pass}
 use Rattle.molecule.specs.Molecule.{bonded, neighbours}
 use Rattle.lists.proofs.Found.{find-passes}
 use Rattle.lists.proofs.Members.{getD-mem}
@@ -96,13 +95,13 @@ module _ (t : Arrays) (T : Tidy t) (a : ℕ) (h : a < t .n) where
           let e : asMolecule t .code a b ≡ getD (t .codes) (6 * a + w .0) 0 = subst (λ (x : ℕ). asMolecule t .code a x ≡ getD (t .codes) (6 * a + w .0) 0) (w .2) c in
           ap not (ne-eqb (asMolecule t .code a b) 0 (λ z. omega (arith, T .coded a (w .0) h (w .1))))
           ∙ sym
-              (some-pass (λ x. eqb x b) row (getD row (w .0) 0) (getD-mem row (w .0) 0 (omega (arith, near-long)))
-              (eq-eqb _ b (row-at (t .degrees) (t .near) a (w .0) (w .1) ∙ w .2)))
+          (some-pass (λ x. eqb x b) row (getD row (w .0) 0) (getD-mem row (w .0) 0 (omega (arith, near-long)))
+          (eq-eqb _ b (row-at (t .degrees) (t .near) a (w .0) (w .1) ∙ w .2)))
       go (inr f) =
           ap not (eq-eqb (asMolecule t .code a b) 0 (code-none b f))
           ∙ sym
-              (some-none (λ x. eqb x b) 0 row
-              (λ j l. let k : j < d = omega (arith, near-long) in ne-eqb (getD row j 0) b (λ e. f j k (sym (row-at (t .degrees) (t .near) a j k) ∙ e))))
+          (some-none (λ x. eqb x b) 0 row
+          (λ j l. let k : j < d = omega (arith, near-long) in ne-eqb (getD row j 0) b (λ e. f j k (sym (row-at (t .degrees) (t .near) a j k) ∙ e))))
 
   ascends : Rising 0 (0 + t .n) row
   ascends =

@@ -7,8 +7,8 @@ ghost use Rattle.molecule.specs.Molecule.{connected};
 ghost use Rattle.table.specs.View.{viewOf, TidyTable, EvenTable};
 ghost use Rattle.table.specs.Changes.{Grown, Joinable, Joined, HalfJoinable, HalfJoined, bondOf};
 
-pub mod rows;
 mod flood;
+pub mod rows;
 
 // An atom's number in a card or a table, from 0.
 pub struct AtomNo(pub u8);

@@ -6,41 +6,27 @@ use Rattle.card.proofs.Whole.{counts-low, read-broken, read-counts, rea
 use borrow.Author.Needs.{needs}
 use Rattle.card.proofs.read.Statement.{statement}
 use Rattle.card.proofs.read.Tie as tie
-use Rattle.card.proofs.read.Reads as reads
-use Rattle.card.proofs.read.Lts as lts
-use Rattle.card.proofs.atoms.read_atoms.Reads as read-atoms-reads
-use Rattle.card.proofs.bonds.read_bonds.Reads as read-bonds-reads
-use Rattle.card.proofs.layout.counts_fault.Reads as counts-fault-reads
-use Rattle.card.proofs.layout.find_fields.Reads as find-fields-reads
-use Rattle.card.proofs.refused.Reads as refused-reads
-use Rattle.table.proofs.Table.connected.Reads as connected-reads
 
 sound : (i : tie.Else1) → inLayout (i .before .before .before .before .args .card .now) ≡ true
 sound i = sym (i .before .before .find-fields .ensures .sound) ∙ not-false _ (i .if1 .left)
 
--- src/lib.rt:35:9
 find-fields-requires : tie.Need-find-fields-requires
 find-fields-requires c κs = search needs
 
--- src/lib.rt:37:9
 refused-requires : tie.Need-refused-requires
 refused-requires c κs = search needs
 
--- src/lib.rt:37:9
 returns : tie.Need-returns
 returns c =
     let s = c .before .before .before .before .before .args .card .now in
     read-broken s (sym (c .before .before .before .find-fields .ensures .sound) ∙ not-true _ (c .before .if1 .taken)) _ (c .refused .ensures)
 
--- src/lib.rt:39:9
 counts-fault-requires : tie.Need-counts-fault-requires
 counts-fault-requires c κs = search needs
 
--- src/lib.rt:41:9
 refused-requires-2 : tie.Need-refused-requires-2
 refused-requires-2 c κs = search needs
 
--- src/lib.rt:41:9
 returns-2 : tie.Need-returns-2
 returns-2 c =
     let q = c .before .before in
@@ -49,7 +35,6 @@ returns-2 c =
     let F = i .before .before .find-fields .ensures in
     read-counts s (sound i) _ _ _ (F .atoms (sound i)) (F .bonds (sound i)) (q .counts-fault .ensures) (c .before .if2 .taken) _ (c .refused2 .ensures)
 
--- src/lib.rt:43:9
 read-atoms-requires : tie.Need-read-atoms-requires
 read-atoms-requires c κs =
     let q = c .before in
@@ -58,7 +43,6 @@ read-atoms-requires c κs =
     let F = i .before .before .find-fields .ensures in
     (sound i, F .atoms (sound i), counts-low (i .before .before .find-fields .result .atoms) (i .before .before .find-fields .result .bonds) (sym (q .counts-fault .ensures) ∙ c .if2 .left) .1)
 
--- src/lib.rt:45:9
 returns-3 : tie.Need-returns-3
 returns-3 c =
     let q = c .before .before .before .before in
@@ -67,7 +51,6 @@ returns-3 c =
     let F = i .before .before .find-fields .ensures in
     read-atomic s (sound i) _ _ _ (F .atoms (sound i)) (F .bonds (sound i)) (q .counts-fault .ensures) (c .before .before .before .if2 .left) _ (c .before .before .read-atoms .ensures) (c .if3 .taken)
 
--- src/lib.rt:48:9
 read-bonds-requires : tie.Need-read-bonds-requires
 read-bonds-requires c κs =
     let q = c .before .before .before .before .before in
@@ -76,7 +59,6 @@ read-bonds-requires c κs =
     let F = i .before .before .find-fields .ensures in
     (sound i, F .bonds (sound i), c .before .before .before .read-atoms .ensures .table (c .before .if3 .left))
 
--- src/lib.rt:50:9
 returns-4 : tie.Need-returns-4
 returns-4 c =
     let q = c .before .before .before .before .before .before .before .before in
@@ -85,7 +67,6 @@ returns-4 c =
     let F = i .before .before .find-fields .ensures in
     read-bonded s (sound i) _ _ _ (F .atoms (sound i)) (F .bonds (sound i)) (q .counts-fault .ensures) (c .before .before .before .before .before .before .before .if2 .left) _ (c .before .before .before .before .before .before .read-atoms .ensures) (c .before .before .before .before .if3 .left) _ (c .before .before .read-bonds .ensures) (c .if4 .taken)
 
--- src/lib.rt:53:9
 connected-requires : tie.Need-connected-requires
 connected-requires c κs =
     let q = c .before .before .before .before .before .before .before .before .before in
@@ -94,11 +75,9 @@ connected-requires c κs =
     let F = i .before .before .find-fields .ensures in
     read-ready s (sound i) _ _ _ (F .atoms (sound i)) (F .bonds (sound i)) (q .counts-fault .ensures) (c .before .before .before .before .before .before .before .before .if2 .left) _ (c .before .before .before .before .before .before .before .read-atoms .ensures) (c .before .before .before .before .before .if3 .left) _ (c .before .before .before .read-bonds .ensures) (c .before .if4 .left)
 
--- src/lib.rt:54:9
 refused-requires-3 : tie.Need-refused-requires-3
 refused-requires-3 c κs = search needs
 
--- src/lib.rt:54:9
 returns-5 : tie.Need-returns-5
 returns-5 c =
     let q = c .before .before .before .before .before .before .before .before .before .before .before .before in
@@ -107,7 +86,6 @@ returns-5 c =
     let F = i .before .before .find-fields .ensures in
     read-apart s (sound i) _ _ _ (F .atoms (sound i)) (F .bonds (sound i)) (q .counts-fault .ensures) (c .before .before .before .before .before .before .before .before .before .before .before .if2 .left) _ (c .before .before .before .before .before .before .before .before .before .before .read-atoms .ensures) (c .before .before .before .before .before .before .before .before .if3 .left) _ (c .before .before .before .before .before .before .read-bonds .ensures) (c .before .before .before .before .if4 .left) _ (c .before .before .connected .ensures) (not-true _ (c .before .if5 .taken)) _ (c .refused3 .ensures)
 
--- src/lib.rt:32:1
 returns-6 : tie.Need-returns-6
 returns-6 c =
     let q = c .before .before .before .before .before .before .before .before .before .before .before in

@@ -4,45 +4,30 @@ use Rattle.table.specs.Arrays.{asMolecule}
 use Rattle.table.specs.View.{arraysOf}
 use Rattle.card.proofs.Written.{wrote-long}
 use Rattle.card.proofs.CardWritten.{atoms-long, rows-there, bonds-few, bonds-room, card-short, card-written}
-use borrow.Author.Needs.{needs}
 use Rattle.card.proofs.write.Statement.{statement}
 use Rattle.card.proofs.write.Tie as tie
-use Rattle.card.proofs.write.Reads as reads
-use Rattle.card.proofs.write.Lts as lts
-use Rattle.card.proofs.writing.bonds_length.Reads as bonds-length-reads
-use Rattle.card.proofs.writing.write_atoms.Reads as write-atoms-reads
-use Rattle.card.proofs.writing.write_bonds.Reads as write-bonds-reads
-use Rattle.card.proofs.writing.write_head.Reads as write-head-reads
 
--- src/lib.rt:77:9
 bonds-length-requires : tie.Need-bonds-length-requires
 bonds-length-requires c κs = let s = c .before .before .before .before in (s .pre .0 .atoms, rows-there (arraysOf (s .args .t1)) (s .pre .0))
 
--- src/lib.rt:78:18
 mul-length : tie.Need-mul-length
 mul-length c = let s = c .before .before .before .before .before in omega (arith, s .pre .0 .atoms)
 
--- src/lib.rt:78:18
 add-length : tie.Need-add-length
 add-length c = let s = c .before .before .before .before .before in omega (arith, s .pre .0 .atoms, bonds-few (arraysOf (s .args .t1)) (s .pre .0) _ (c .bonds-length .ensures))
 
--- src/lib.rt:78:18
 add-length-2 : tie.Need-add-length-2
 add-length-2 c = let s = c .before .before .before .before .before in omega (arith, s .pre .0 .atoms, bonds-few (arraysOf (s .args .t1)) (s .pre .0) _ (c .bonds-length .ensures))
 
--- src/lib.rt:80:9
 returns : tie.Need-returns
 returns c = let s = c .before .before .before .before .before .before in card-short (arraysOf (s .args .t1)) (s .pre .0) _ (c .before .bonds-length .ensures) (s .args .out .now) (c .if1 .taken)
 
--- src/lib.rt:85:51
 mul-write-head : tie.Need-mul-write-head
 mul-write-head c = let s = c .before .before .before .before .before .before .before in omega (arith, s .pre .0 .atoms)
 
--- src/lib.rt:85:9
 write-head-requires : tie.Need-write-head-requires
 write-head-requires c κs = let s = c .before .before .before .before .before .before .before in (omega (arith, c .before .if1 .left), omega (arith, s .pre .0 .atoms))
 
--- src/lib.rt:86:9
 write-atoms-requires : tie.Need-write-atoms-requires
 unfolding asMolecule
 write-atoms-requires c κs =
@@ -50,25 +35,21 @@ write-atoms-requires c κs =
     let w = c .before .before .before .before .before .before .write-head .ensures in
     (omega (arith, w .ends, wrote-long _ _ _ _ _ w, c .before .before .before .before .before .before .before .before .if1 .left), s .pre .0 .atoms, s .pre .1)
 
--- src/lib.rt:87:9
 write-head-requires-2 : tie.Need-write-head-requires-2
 write-head-requires-2 c κs =
     let s = c .before .before .before .before .before .before .before .before .before .before .before .before .before .before .before .before .before .before in
     let w = c .before .before .before .before .before .before .before .before .before .before .write-head .ensures in
-    let v = c .before .before .before .write-atoms .ensures in
-    (
+    let v = c .before .before .before .write-atoms .ensures in (
       omega (arith, w .ends, wrote-long _ _ _ _ _ w, v .ends, wrote-long _ _ _ _ _ v, atoms-long (arraysOf (s .args .t1)) (s .pre .0), c .before .before .before .before .before .before .before .before .before .before .before .before .if1 .left),
       omega (arith, bonds-few (arraysOf (s .args .t1)) (s .pre .0) _ (c .before .before .before .before .before .before .before .before .before .before .before .before .before .bonds-length .ensures)),
     )
 
--- src/lib.rt:88:5
 write-bonds-requires : tie.Need-write-bonds-requires
 write-bonds-requires c κs =
     let s = c .before .before .before .before .before .before .before .before .before .before .before .before .before .before .before .before .before .before .before .before .before .before .before .before .before .before in
     let w = c .before .before .before .before .before .before .before .before .before .before .before .before .before .before .before .before .before .before .write-head .ensures in
     let v = c .before .before .before .before .before .before .before .before .before .before .before .write-atoms .ensures in
-    let u = c .before .before .before .before .before .before .before .write-head2 .ensures in
-    (
+    let u = c .before .before .before .before .before .before .before .write-head2 .ensures in (
       rows-there (arraysOf (s .args .t1)) (s .pre .0),
       omega (
         arith,
@@ -84,13 +65,11 @@ write-bonds-requires c κs =
       ),
     )
 
--- src/lib.rt:72:1
 same-length : tie.Need-same-length
 same-length c =
     wrote-long _ _ _ _ _ (c .before .before .write-bonds .ensures) ∙ wrote-long _ _ _ _ _ (c .before .before .before .before .before .before .before .before .before .before .write-head2 .ensures) ∙ wrote-long _ _ _ _ _ (c .before .before .before .before .before .before .before .before .before .before .before .before .before .before .write-atoms .ensures)
     ∙ wrote-long _ _ _ _ _ (c .before .before .before .before .before .before .before .before .before .before .before .before .before .before .before .before .before .before .before .before .before .write-head .ensures)
 
--- src/lib.rt:72:1
 returns-2 : tie.Need-returns-2
 returns-2 c =
     let s = c .before .before .before .before .before .before .before .before .before .before .before .before .before .before .before .before .before .before .before .before .before .before .before .before .before .before .before .before .before in

@@ -6,10 +6,6 @@ use lib.ListN.{length}
 use borrow.Author.Needs.{needs}
 use Rattle.cards.proofs.main.Statement.{statement}
 use Rattle.cards.proofs.main.Tie as tie
-use Rattle.cards.proofs.main.Reads as reads
-use Rattle.cards.proofs.main.Lts as lts
-use Rattle.cards.proofs.answer.Reads as answer-reads
-use Rattle.cards.proofs.read_line.Reads as read-line-reads
 
 abbrev Inv-loop : tie.InvT-loop
 Inv-loop card₀ counter₀ card counter = (length card ≡ 2048) × (counter ≤ 65536)
@@ -17,46 +13,36 @@ Inv-loop card₀ counter₀ card counter = (length card ≡ 2048) × (counter �
 abbrev μ-loop : tie.MeasureT-loop
 μ-loop card₀ counter₀ card counter = 65536 - counter
 
--- src/main.rt:120:5
 loop-holds : tie.Need-loop-holds Inv-loop μ-loop
 loop-holds c = search needs
 
--- src/main.rt:121:13
 read-line-requires : tie.Need-read-line-requires Inv-loop μ-loop
 read-line-requires c κs = search needs
 
--- src/main.rt:123:13
 returns : tie.Need-returns Inv-loop μ-loop
 returns c = search needs
 
--- src/main.rt:126:16
 array-share-prefix-card : tie.Need-array-share-prefix-card Inv-loop μ-loop
 array-share-prefix-card c = search needs
 
--- src/main.rt:126:16
 slice-aggregate-answer : tie.Need-slice-aggregate-answer Inv-loop μ-loop
 slice-aggregate-answer c =
     let r = c .before .before .read-line in
     let h : r .result .bytes ≤ length (r .last .0) = omega (arith, r .ensures) in
     sym (length-take-le (r .result .bytes) (r .last .0) h)
 
--- src/main.rt:126:9
 answer-requires : tie.Need-answer-requires Inv-loop μ-loop
 answer-requires c κs = search needs
 
--- src/main.rt:120:9
 add-counter : tie.Need-add-counter Inv-loop μ-loop
 add-counter c = search needs
 
--- src/main.rt:120:5
 loop-less : tie.Need-loop-less Inv-loop μ-loop
 loop-less c = search needs
 
--- src/main.rt:120:5
 loop-again : tie.Need-loop-again Inv-loop μ-loop
 loop-again c = search needs
 
--- src/main.rt:117:1
 returns-2 : tie.Need-returns-2 Inv-loop μ-loop
 returns-2 c = search needs
 

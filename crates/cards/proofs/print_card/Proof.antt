@@ -2,11 +2,6 @@ use Prim.Native.Nat.{_-_, _≤_}
 use borrow.Author.Needs.{needs}
 use Rattle.cards.proofs.print_card.Statement.{statement}
 use Rattle.cards.proofs.print_card.Tie as tie
-use Rattle.cards.proofs.print_card.Reads as reads
-use Rattle.cards.proofs.print_card.Lts as lts
-use Rattle.card.proofs.write.Reads as write-reads
-use Rattle.cards.proofs.print_byte.Reads as print-byte-reads
-use Rattle.io.proofs.write_all.Reads as write-all-reads
 
 abbrev Inv-loop : tie.InvT-loop
 Inv-loop out w i₀ i = i ≤ 512
@@ -14,51 +9,39 @@ Inv-loop out w i₀ i = i ≤ 512
 abbrev μ-loop : tie.MeasureT-loop
 μ-loop out w i₀ i = 512 - i
 
--- src/main.rt:94:28
 slice-aggregate-write : tie.Need-slice-aggregate-write Inv-loop μ-loop
 slice-aggregate-write c = search needs
 
--- src/main.rt:94:9
 write-requires : tie.Need-write-requires Inv-loop μ-loop
 write-requires c κs = search needs
 
--- src/main.rt:95:34
 slice-aggregate-write-all : tie.Need-slice-aggregate-write-all Inv-loop μ-loop
 slice-aggregate-write-all c = search needs
 
--- src/main.rt:95:5
 write-all-requires : tie.Need-write-all-requires Inv-loop μ-loop
 write-all-requires c κs = search needs
 
--- src/main.rt:97:5
 loop-holds : tie.Need-loop-holds Inv-loop μ-loop
 loop-holds c = search needs
 
--- src/main.rt:99:13
 returns : tie.Need-returns Inv-loop μ-loop
 returns c = search needs
 
--- src/main.rt:101:20
 array-read-print-byte : tie.Need-array-read-print-byte Inv-loop μ-loop
 array-read-print-byte c = search needs
 
--- src/main.rt:101:9
 print-byte-requires : tie.Need-print-byte-requires Inv-loop μ-loop
 print-byte-requires c κs = search needs
 
--- src/main.rt:102:9
 add-i : tie.Need-add-i Inv-loop μ-loop
 add-i c = search needs
 
--- src/main.rt:97:5
 loop-less : tie.Need-loop-less Inv-loop μ-loop
 loop-less c = search needs
 
--- src/main.rt:97:5
 loop-again : tie.Need-loop-again Inv-loop μ-loop
 loop-again c = search needs
 
--- src/main.rt:90:1
 returns-2 : tie.Need-returns-2 Inv-loop μ-loop
 returns-2 c = search needs
 

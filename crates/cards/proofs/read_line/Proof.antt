@@ -4,11 +4,6 @@ use Prim.Native.Nat.{_-_, _≤_}
 use borrow.Author.Needs.{needs}
 use Rattle.cards.proofs.read_line.Statement.{statement}
 use Rattle.cards.proofs.read_line.Tie as tie
-use Rattle.cards.proofs.read_line.Reads as reads
-use Rattle.cards.proofs.read_line.Lts as lts
-use Rattle.cards.proofs.digit.Reads as digit-reads
-use Rattle.cards.proofs.put_digit.Reads as put-digit-reads
-use Rattle.cards.proofs.read_byte.Reads as read-byte-reads
 
 abbrev Inv-loop : tie.InvT-loop
 Inv-loop card₀ digits₀ counter₀ card digits counter = (digits ≤ 4096) × (counter ≤ 65536) × (length card ≡ 2048)
@@ -16,39 +11,30 @@ Inv-loop card₀ digits₀ counter₀ card digits counter = (digits ≤ 4096) ×
 abbrev μ-loop : tie.MeasureT-loop
 μ-loop card₀ digits₀ counter₀ card digits counter = 65536 - counter
 
--- src/main.rt:67:5
 loop-holds : tie.Need-loop-holds Inv-loop μ-loop
 loop-holds c = search needs
 
--- src/main.rt:68:13
 read-byte-requires : tie.Need-read-byte-requires Inv-loop μ-loop
 read-byte-requires c κs = search needs
 
--- src/main.rt:70:13
 returns : tie.Need-returns Inv-loop μ-loop
 returns c = search needs
 
--- src/main.rt:78:42
 digit-requires : tie.Need-digit-requires Inv-loop μ-loop
 digit-requires c κs = search needs
 
--- src/main.rt:78:9
 put-digit-requires : tie.Need-put-digit-requires Inv-loop μ-loop
 put-digit-requires c κs = search needs
 
--- src/main.rt:67:9
 add-counter : tie.Need-add-counter Inv-loop μ-loop
 add-counter c = search needs
 
--- src/main.rt:67:5
 loop-less : tie.Need-loop-less Inv-loop μ-loop
 loop-less c = search needs
 
--- src/main.rt:67:5
 loop-again : tie.Need-loop-again Inv-loop μ-loop
 loop-again c = search needs
 
--- src/main.rt:63:1
 returns-2 : tie.Need-returns-2 Inv-loop μ-loop
 returns-2 c = search needs
 

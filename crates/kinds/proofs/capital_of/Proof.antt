@@ -5,19 +5,13 @@ use Rattle.kinds.proofs.Arrays.{capitals, first-at}
 use borrow.Author.Needs.{needs}
 use Rattle.kinds.proofs.capital_of.Statement.{statement}
 use Rattle.kinds.proofs.capital_of.Tie as tie
-use Rattle.kinds.proofs.capital_of.Reads as reads
-use Rattle.kinds.proofs.capital_of.Lts as lts
-use Rattle.kinds.proofs.wide.Reads as wide-reads
 
--- src/lib.rt:65:14
 wide-requires : tie.Need-wide-requires
 wide-requires c κs = search needs
 
--- src/lib.rt:65:5
 array-read-result : tie.Need-array-read-result
 array-read-result c = search needs
 
--- src/lib.rt:61:1
 returns : tie.Need-returns
 unfolding capitals
 returns c = ap (λ (i : ℕ). getD capitals i 0) (c .wide .ensures) ∙ first-at (c .before .args .kind) (c .before .pre)

@@ -7,27 +7,19 @@ use Rattle.kinds.proofs.Arrays.{by-capital, capital-at, no-capital}
 use borrow.Author.Needs.{needs}
 use Rattle.kinds.proofs.kind_of_capital.Statement.{statement}
 use Rattle.kinds.proofs.kind_of_capital.Tie as tie
-use Rattle.kinds.proofs.kind_of_capital.Reads as reads
-use Rattle.kinds.proofs.kind_of_capital.Lts as lts
-use Rattle.kinds.proofs.wide.Reads as wide-reads
 
--- src/lib.rt:81:9
 returns : tie.Need-returns
 returns c = sym (no-capital (c .before .args .letter) [] (λ h k. omega arith))
 
--- src/lib.rt:84:9
 returns-2 : tie.Need-returns-2
 returns-2 c = sym (no-capital (c .before .before .args .letter) [] (λ h k. omega arith))
 
--- src/lib.rt:86:16
 wide-requires : tie.Need-wide-requires
 wide-requires c κs = search needs
 
--- src/lib.rt:86:5
 array-read-result : tie.Need-array-read-result
 array-read-result c = search needs
 
--- src/lib.rt:77:1
 returns-3 : tie.Need-returns-3
 unfolding by-capital
 returns-3 c =

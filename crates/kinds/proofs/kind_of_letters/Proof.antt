@@ -8,8 +8,6 @@ use Rattle.kinds.proofs.Arrays.{capitals, smalls, letters-found, letter
 use borrow.Author.Needs.{needs}
 use Rattle.kinds.proofs.kind_of_letters.Statement.{statement}
 use Rattle.kinds.proofs.kind_of_letters.Tie as tie
-use Rattle.kinds.proofs.kind_of_letters.Reads as reads
-use Rattle.kinds.proofs.kind_of_letters.Lts as lts
 
 abbrev Inv-loop : tie.InvT-loop
 Inv-loop capital small k₀ k = (k ≤ 25) × ((j : ℕ) → j < k → getD capitals j 0 ≡ capital → getD smalls j 0 ≡ small → ⊥)
@@ -17,27 +15,21 @@ Inv-loop capital small k₀ k = (k ≤ 25) × ((j : ℕ) → j < k → getD capi
 abbrev μ-loop : tie.MeasureT-loop
 μ-loop capital small k₀ k = 25 - k
 
--- src/lib.rt:95:9
 returns : tie.Need-returns Inv-loop μ-loop
 returns c = sym (no-second (c .before .args .capital) (c .before .args .small) (c .if1 .taken))
 
--- src/lib.rt:98:5
 loop-holds : tie.Need-loop-holds Inv-loop μ-loop
 loop-holds c = (omega arith, λ j h e f. omega arith)
 
--- src/lib.rt:99:12
 array-read-if2 : tie.Need-array-read-if2 Inv-loop μ-loop
 array-read-if2 c = search needs
 
--- src/lib.rt:100:16
 array-read-if3 : tie.Need-array-read-if3 Inv-loop μ-loop
 array-read-if3 c = search needs
 
--- src/lib.rt:101:24
 cast-result : tie.Need-cast-result Inv-loop μ-loop
 cast-result c = search needs
 
--- src/lib.rt:101:17
 returns-2 : tie.Need-returns-2 Inv-loop μ-loop
 unfolding capitals smalls
 returns-2 c =
@@ -45,27 +37,22 @@ returns-2 c =
     let l = c .before .before .before in
     sym (letters-found (s .args .capital) (s .args .small) (l .loop .k) (omega arith) (c .before .if2 .taken) (c .if3 .taken) (l .before .if1 .left))
 
--- src/lib.rt:104:9
 add-k : tie.Need-add-k Inv-loop μ-loop
 add-k c = search needs
 
--- src/lib.rt:98:5
 loop-less : tie.Need-loop-less Inv-loop μ-loop
 loop-less c = search needs
 
--- src/lib.rt:98:5
 loop-again : tie.Need-loop-again Inv-loop μ-loop
 unfolding capitals smalls
 loop-again c =
     let l = c .before .before in
-    let s = l .before .before in
-    (
+    let s = l .before .before in (
       omega arith,
       below-more (λ (j : ℕ). getD capitals j 0 ≡ s .args .capital → getD smalls j 0 ≡ s .args .small → ⊥) (l .loop .k) (l .loop .inv .1)
-      (⊎-elim (λ w e f. w .1 .left f) (λ w e f. w .left e) (c .if2 .came)),
+          (⊎-elim (λ w e f. w .1 .left f) (λ w e f. w .left e) (c .if2 .came)),
     )
 
--- src/lib.rt:90:1
 returns-3 : tie.Need-returns-3 Inv-loop μ-loop
 returns-3 c =
     let s = c .before .before .before in

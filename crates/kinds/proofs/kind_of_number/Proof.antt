@@ -6,23 +6,16 @@ use Rattle.kinds.proofs.Arrays.{by-number, kind-at, no-number}
 use borrow.Author.Needs.{needs}
 use Rattle.kinds.proofs.kind_of_number.Statement.{statement}
 use Rattle.kinds.proofs.kind_of_number.Tie as tie
-use Rattle.kinds.proofs.kind_of_number.Reads as reads
-use Rattle.kinds.proofs.kind_of_number.Lts as lts
-use Rattle.kinds.proofs.wide.Reads as wide-reads
 
--- src/lib.rt:53:9
 wide-requires : tie.Need-wide-requires
 wide-requires c κs = search needs
 
--- src/lib.rt:55:9
 returns : tie.Need-returns
 returns c = sym (no-number (c .before .before .args .number) (omega (arith, c .before .wide .ensures)))
 
--- src/lib.rt:57:5
 array-read-result : tie.Need-array-read-result
 array-read-result c = search needs
 
--- src/lib.rt:50:1
 returns-2 : tie.Need-returns-2
 unfolding by-number
 returns-2 c = ap (λ (i : ℕ). getD by-number i 0) (c .before .wide .ensures) ∙ kind-at (c .before .before .args .number) (omega (arith, c .before .wide .ensures))

@@ -5,19 +5,13 @@ use Rattle.kinds.proofs.Arrays.{numbers, number-at}
 use borrow.Author.Needs.{needs}
 use Rattle.kinds.proofs.number_of.Statement.{statement}
 use Rattle.kinds.proofs.number_of.Tie as tie
-use Rattle.kinds.proofs.number_of.Reads as reads
-use Rattle.kinds.proofs.number_of.Lts as lts
-use Rattle.kinds.proofs.wide.Reads as wide-reads
 
--- src/lib.rt:47:13
 wide-requires : tie.Need-wide-requires
 wide-requires c κs = search needs
 
--- src/lib.rt:47:5
 array-read-result : tie.Need-array-read-result
 array-read-result c = search needs
 
--- src/lib.rt:43:1
 returns : tie.Need-returns
 unfolding numbers
 returns c = ap (λ (i : ℕ). getD numbers i 0) (c .wide .ensures) ∙ number-at (c .before .args .kind) (c .before .pre)

@@ -4,9 +4,6 @@ use borrow.Author.Tests.{lt-ltb, le-ltb, le-leb, lt-leb}
 use borrow.Author.Needs.{needs}
 use Rattle.card.proofs.atoms.atom_fault.Statement.{statement}
 use Rattle.card.proofs.atoms.atom_fault.Tie as tie
-use Rattle.card.proofs.atoms.atom_fault.Reads as reads
-use Rattle.card.proofs.atoms.atom_fault.Lts as lts
-use Rattle.card.proofs.wide.Reads as wide-reads
 
 some : (c : tie.Else1) → 0 < c .before .args .kind
 some c = let h = c .if1 .left in omega arith
@@ -14,25 +11,20 @@ some c = let h = c .if1 .left in omega arith
 known : (c : tie.Else2) → c .before .before .args .kind ≤ 24
 known c = let h = c .if2 .left in omega arith
 
--- src/atoms.rt:18:9
 returns : tie.Need-returns
 returns c = simp (le-ltb 0 (c .before .args .kind) (omega (arith, c .if1 .taken)))
 
--- src/atoms.rt:21:9
 returns-2 : tie.Need-returns-2
 returns-2 c = simp (lt-ltb 0 (c .before .before .args .kind) (some (c .before)), lt-leb (c .before .before .args .kind) 24 (c .if2 .taken))
 
--- src/atoms.rt:23:34
 wide-requires : tie.Need-wide-requires
 wide-requires c κs = search needs
 
--- src/atoms.rt:24:9
 returns-3 : tie.Need-returns-3
 returns-3 c =
     let s = c .before .before .before .before in
     simp (lt-ltb 0 (s .args .kind) (some (c .before .before .before)), le-leb (s .args .kind) 24 (known (c .before .before)), lt-ltb 4 (s .args .hydrogens) (omega (arith, c .before .wide .ensures)))
 
--- src/atoms.rt:14:1
 returns-4 : tie.Need-returns-4
 returns-4 c =
     let s = c .before .before .before .before in

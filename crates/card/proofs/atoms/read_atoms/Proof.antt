@@ -8,13 +8,6 @@ use Rattle.card.proofs.Filling.{Filling, filling-start, filling-atom, f
 use borrow.Author.Needs.{needs}
 use Rattle.card.proofs.atoms.read_atoms.Statement.{statement}
 use Rattle.card.proofs.atoms.read_atoms.Tie as tie
-use Rattle.card.proofs.atoms.read_atoms.Reads as reads
-use Rattle.card.proofs.atoms.read_atoms.Lts as lts
-use Rattle.card.proofs.atoms.atom_fault.Reads as atom-fault-reads
-use Rattle.card.proofs.refused.Reads as refused-reads
-use Rattle.card.proofs.wide.Reads as wide-reads
-use Rattle.kinds.proofs.kind_of_number.Reads as kind-of-number-reads
-use Rattle.table.proofs.Table.empty.Reads as empty-reads
 
 abbrev Inv-loop : tie.InvT-loop
 Inv-loop card n t₀ total₀ t total = Filling card t total
@@ -33,51 +26,39 @@ below : (l : tie.At-loop Inv-loop μ-loop) → l .loop .t .n < l .before .before
     → (2 * l .loop .t .n + 4 < length (l .before .before .before .args .card .now)) × (l .loop .t .n < 64)
 below l h = let s = l .before .before .before in (omega (arith, more l h, laid (s .args .card .now) (s .pre .0) .long), room l h)
 
--- src/atoms.rt:34:17
 empty-requires : tie.Need-empty-requires Inv-loop μ-loop
 empty-requires c κs = search needs
 
--- src/atoms.rt:36:5
 loop-holds : tie.Need-loop-holds Inv-loop μ-loop
 loop-holds c = filling-start (c .before .before .args .card .now) _ (c .empty .ensures .0) (c .empty .ensures .1)
 
--- src/atoms.rt:38:47
 mul-kind-of-number : tie.Need-mul-kind-of-number Inv-loop μ-loop
 mul-kind-of-number c = omega (arith, below (c .before) (c .loop-test .taken))
 
--- src/atoms.rt:38:47
 add-kind-of-number : tie.Need-add-kind-of-number Inv-loop μ-loop
 add-kind-of-number c = omega (arith, below (c .before) (c .loop-test .taken))
 
--- src/atoms.rt:38:42
 shared-slice-read-kind-of-number : tie.Need-shared-slice-read-kind-of-number Inv-loop μ-loop
 shared-slice-read-kind-of-number c = omega (arith, below (c .before .before) (c .before .loop-test .taken))
 
--- src/atoms.rt:38:13
 kind-of-number-requires : tie.Need-kind-of-number-requires Inv-loop μ-loop
 kind-of-number-requires c κs = search needs
 
--- src/atoms.rt:39:30
 mul-hydrogens : tie.Need-mul-hydrogens Inv-loop μ-loop
 mul-hydrogens c = omega (arith, below (c .before .before .before) (c .before .before .loop-test .taken))
 
--- src/atoms.rt:39:30
 add-hydrogens : tie.Need-add-hydrogens Inv-loop μ-loop
 add-hydrogens c = omega (arith, below (c .before .before .before) (c .before .before .loop-test .taken))
 
--- src/atoms.rt:39:25
 shared-slice-read-hydrogens : tie.Need-shared-slice-read-hydrogens Inv-loop μ-loop
 shared-slice-read-hydrogens c = omega (arith, below (c .before .before .before .before) (c .before .before .before .loop-test .taken))
 
--- src/atoms.rt:40:13
 atom-fault-requires : tie.Need-atom-fault-requires Inv-loop μ-loop
 atom-fault-requires c κs = search needs
 
--- src/atoms.rt:42:13
 refused-requires : tie.Need-refused-requires Inv-loop μ-loop
 refused-requires c κs = search needs
 
--- src/atoms.rt:42:13
 returns : tie.Need-returns Inv-loop μ-loop
 unfolding kindAt hydrogensAt
 returns c =
@@ -86,27 +67,21 @@ returns c =
     filling-stop (s .args .card .now) (l .loop .t) (l .loop .total) _ _ (l .loop .inv) (more l (c .before .before .before .before .before .before .loop-test .taken)) (c .before .before .before .before .kind-of-number .ensures) refl _ _
     (c .before .before .atom-fault .ensures) (c .before .if1 .taken) (c .refused .ensures)
 
--- src/atoms.rt:44:9
 element-write-t : tie.Need-element-write-t Inv-loop μ-loop
 element-write-t c = room (c .before .before .before .before .before .before) (c .before .before .before .before .before .loop-test .taken)
 
--- src/atoms.rt:45:9
 element-write-t-2 : tie.Need-element-write-t-2 Inv-loop μ-loop
 element-write-t-2 c = room (c .before .before .before .before .before .before) (c .before .before .before .before .before .loop-test .taken)
 
--- src/atoms.rt:46:9
 element-write-t-3 : tie.Need-element-write-t-3 Inv-loop μ-loop
 element-write-t-3 c = room (c .before .before .before .before .before .before) (c .before .before .before .before .before .loop-test .taken)
 
--- src/atoms.rt:47:15
 add-t : tie.Need-add-t Inv-loop μ-loop
 add-t c = omega (arith, room (c .before .before .before .before .before .before) (c .before .before .before .before .before .loop-test .taken))
 
--- src/atoms.rt:48:18
 wide-requires : tie.Need-wide-requires Inv-loop μ-loop
 wide-requires c κs = search needs
 
--- src/atoms.rt:48:9
 add-total : tie.Need-add-total Inv-loop μ-loop
 add-total c =
     let l = c .before .before .before .before .before .before .before in
@@ -119,11 +94,9 @@ add-total c =
       c .before .before .before .shared-slice-known3 .given (2 * l .loop .t .n + 4),
     )
 
--- src/atoms.rt:36:5
 loop-less : tie.Need-loop-less Inv-loop μ-loop
 loop-less c = let h = c .before .before .before .before .before .before .loop-test .taken in omega arith
 
--- src/atoms.rt:36:5
 loop-again : tie.Need-loop-again Inv-loop μ-loop
 unfolding kindAt hydrogensAt
 loop-again c =
@@ -132,18 +105,15 @@ loop-again c =
     filling-atom (s .args .card .now) (l .loop .t) (l .loop .total) _ _ (l .loop .inv) (more l (c .before .before .before .before .before .before .loop-test .taken)) (c .before .before .before .before .kind-of-number .ensures) refl _
     (c .wide .ensures) (room l (c .before .before .before .before .before .before .loop-test .taken)) (sym (c .before .before .atom-fault .ensures) ∙ c .before .if1 .left)
 
--- src/atoms.rt:51:9
 refused-requires-2 : tie.Need-refused-requires-2 Inv-loop μ-loop
 refused-requires-2 c κs = search needs
 
--- src/atoms.rt:51:9
 returns-2 : tie.Need-returns-2 Inv-loop μ-loop
 returns-2 c =
     let l = c .before .before .before in
     let s = c .before .before .before .before .before .before in
     filling-over (s .args .card .now) (l .loop .t) (l .loop .total) (l .loop .inv) (omega (arith, s .pre .1, c .before .before .loop-test .left)) (c .before .if2 .taken) _ (c .refused2 .ensures)
 
--- src/atoms.rt:30:1
 returns-3 : tie.Need-returns-3 Inv-loop μ-loop
 returns-3 c =
     let l = c .before .before in

@@ -1,5 +1,5 @@
 use mathlib.Core.Path.{sym, _∙_}
-use Prim.Native.Nat.{_+_, _*_, _-_, _<_, _≤_}
+use Prim.Native.Nat.{_+_, _*_, _-_, _<_}
 use native.Mathlib.Omega.{arith}
 use lib.ListN.{length}
 use Rattle.molecule.specs.Layout.{bondCount}
@@ -7,11 +7,6 @@ use Rattle.card.proofs.Bonding.{Bonding, bonding-start, bonding-rows, b
 use borrow.Author.Needs.{needs}
 use Rattle.card.proofs.bonds.read_bonds.Statement.{statement}
 use Rattle.card.proofs.bonds.read_bonds.Tie as tie
-use Rattle.card.proofs.bonds.read_bonds.Reads as reads
-use Rattle.card.proofs.bonds.read_bonds.Lts as lts
-use Rattle.card.proofs.bonds.bond_fault.Reads as bond-fault-reads
-use Rattle.card.proofs.refused.Reads as refused-reads
-use Rattle.table.proofs.Table.with_bond.Reads as with-bond-reads
 
 abbrev Inv-loop : tie.InvT-loop
 Inv-loop card m n first t₀ k₀ t k = Bonding card t k
@@ -28,87 +23,69 @@ below l h =
     let s = l .before .before in
     bonding-inside (s .args .card .now) (s .pre .0) (s .args .bare .n) (s .pre .2 .size) (l .loop .t) (l .loop .k) (l .loop .inv) (more l h)
 
--- src/bonds.rt:56:17
 mul-first : tie.Need-mul-first Inv-loop μ-loop
 mul-first c = omega (arith, c .before .pre .2 .tidy .atoms)
 
--- src/bonds.rt:56:17
 add-first : tie.Need-add-first Inv-loop μ-loop
 add-first c = omega (arith, c .before .pre .2 .tidy .atoms)
 
--- src/bonds.rt:59:5
 loop-holds : tie.Need-loop-holds Inv-loop μ-loop
 loop-holds c = bonding-start (c .before .args .card .now) _ (c .before .pre .2)
 
--- src/bonds.rt:60:26
 mul-at : tie.Need-mul-at Inv-loop μ-loop
 mul-at c = omega (arith, below (c .before) (c .loop-test .taken), c .before .before .before .good)
 
--- src/bonds.rt:60:18
 add-at : tie.Need-add-at Inv-loop μ-loop
 add-at c = omega (arith, below (c .before) (c .loop-test .taken), c .before .before .before .good)
 
--- src/bonds.rt:61:24
 shared-slice-read-code : tie.Need-shared-slice-read-code Inv-loop μ-loop
 shared-slice-read-code c = omega (arith, below (c .before .before) (c .before .loop-test .taken), c .before .before .before .before .good)
 
--- src/bonds.rt:62:29
 add-code : tie.Need-add-code Inv-loop μ-loop
 add-code c = omega (arith, below (c .before .before) (c .before .loop-test .taken), c .before .before .before .before .good)
 
--- src/bonds.rt:62:24
 shared-slice-read-code-2 : tie.Need-shared-slice-read-code-2 Inv-loop μ-loop
 shared-slice-read-code-2 c = omega (arith, below (c .before .before .before) (c .before .before .loop-test .taken), c .before .before .before .before .before .good)
 
--- src/bonds.rt:63:25
 add-code-2 : tie.Need-add-code-2 Inv-loop μ-loop
 add-code-2 c = omega (arith, below (c .before .before .before) (c .before .before .loop-test .taken), c .before .before .before .before .before .good)
 
--- src/bonds.rt:63:20
 shared-slice-read-code-3 : tie.Need-shared-slice-read-code-3 Inv-loop μ-loop
 shared-slice-read-code-3 c = omega (arith, below (c .before .before .before .before) (c .before .before .before .loop-test .taken), c .before .before .before .before .before .before .good)
 
--- src/bonds.rt:64:13
 bond-fault-requires : tie.Need-bond-fault-requires Inv-loop μ-loop
 bond-fault-requires c κs =
     let l = c .before .before .before .before .before .before .before .before in
     let s = l .before .before in
     bonding-rows (s .args .card .now) (s .pre .0) (s .args .bare .n) (s .pre .2 .size) (l .loop .t) (l .loop .k) (l .loop .inv)
 
--- src/bonds.rt:66:13
 refused-requires : tie.Need-refused-requires Inv-loop μ-loop
 refused-requires c κs = search needs
 
--- src/bonds.rt:66:13
 returns : tie.Need-returns Inv-loop μ-loop
 returns c =
     let l = c .before .before .before .before .before .before .before .before .before .before .before in
     let s = l .before .before in
     bonding-stop (s .args .card .now) (s .pre .0) (s .args .bare .n) (s .pre .2 .size) (l .loop .t) (l .loop .k) (l .loop .inv) (more l (c .before .before .before .before .before .before .before .before .before .before .loop-test .taken)) _ _ (c .before .before .bond-fault .ensures) (c .before .if1 .taken) (c .refused .ensures)
 
--- src/bonds.rt:68:13
 with-bond-requires : tie.Need-with-bond-requires Inv-loop μ-loop
 with-bond-requires c κs =
     let l = c .before .before .before .before .before .before .before .before .before .before in
     let s = l .before .before in
     (l .loop .inv .holds .tidy, bonding-joinable (s .args .card .now) (s .pre .0) (s .args .bare .n) (s .pre .2 .size) (l .loop .t) (l .loop .k) (l .loop .inv) (sym (c .before .bond-fault .ensures) ∙ c .if1 .left))
 
--- src/bonds.rt:69:9
 add-k : tie.Need-add-k Inv-loop μ-loop
 add-k c = let h = c .before .before .before .before .before .before .before .before .before .before .loop-test .taken in omega arith
 
--- src/bonds.rt:59:5
 loop-less : tie.Need-loop-less Inv-loop μ-loop
 loop-less c = let h = c .before .before .before .before .before .before .before .before .before .before .loop-test .taken in omega arith
 
--- src/bonds.rt:59:5
 loop-again : tie.Need-loop-again Inv-loop μ-loop
 loop-again c =
     let l = c .before .before .before .before .before .before .before .before .before .before .before in
     let s = l .before .before in
     bonding-next (s .args .card .now) (s .pre .0) (s .args .bare .n) (s .pre .2 .size) (l .loop .t) (l .loop .k) (l .loop .inv) (more l (c .before .before .before .before .before .before .before .before .before .before .loop-test .taken)) (sym (c .before .before .bond-fault .ensures) ∙ c .before .if1 .left) _ (c .with-bond .ensures .0) (c .with-bond .ensures .1)
 
--- src/bonds.rt:51:1
 returns-2 : tie.Need-returns-2 Inv-loop μ-loop
 returns-2 c =
     let l = c .before in

@@ -1,89 +1,70 @@
-use mathlib.Core.Path.{_≡_, sym, _∙_, ap}
+use mathlib.Core.Path.{_≡_, _∙_, ap}
 use Prim.Native.Nat.{ℕ, _+_, _%_}
 use native.Mathlib.Omega.{arith}
 use lib.ListN.{getD}
-use Rattle.molecule.specs.Layout.{lengthAt, atomsLength, bondsLength}
+use Rattle.molecule.specs.Layout.{lengthAt, bondsLength}
 use Rattle.card.proofs.Layouts.{broken-fields, no-tag, odd-atoms, no-second-tag, odd-bonds, wrong-length, sound-fields}
 use borrow.Author.Needs.{needs}
 use Rattle.card.proofs.layout.find_fields.Statement.{statement}
 use Rattle.card.proofs.layout.find_fields.Tie as tie
-use Rattle.card.proofs.layout.find_fields.Reads as reads
-use Rattle.card.proofs.layout.find_fields.Lts as lts
-use Rattle.card.proofs.layout.broken.Reads as broken-reads
-use Rattle.card.proofs.layout.length_at.Reads as length-at-reads
 
 second : (l : tie.After-length-at2) → l .length-at2 .result ≡ bondsLength (l .before .before .before .before .before .before .before .before .before .before .args .card .now)
 second l =
     let s = l .before .before .before .before .before .before .before .before .before .before in
     l .length-at2 .ensures .is ∙ ap (λ (x : ℕ). lengthAt (s .args .card .now) (x + 4)) (l .before .before .before .before .before .length-at .ensures .is)
 
--- src/layout.rt:38:9
 broken-requires : tie.Need-broken-requires
 broken-requires c κs = search needs
 
--- src/layout.rt:38:9
 returns : tie.Need-returns
 returns c =
     let s = c .before .before .before in
     broken-fields (s .args .card .now) (wrong-length (s .args .card .now) (λ q. omega (arith, q, c .before .if1 .taken))) _ (c .broken .ensures)
 
--- src/layout.rt:40:8
 shared-slice-read-if2 : tie.Need-shared-slice-read-if2
 shared-slice-read-if2 c = search needs
 
--- src/layout.rt:41:9
 broken-requires-2 : tie.Need-broken-requires-2
 broken-requires-2 c κs = search needs
 
--- src/layout.rt:41:9
 returns-2 : tie.Need-returns-2
 returns-2 c =
     let s = c .before .before .before .before .before in
     broken-fields (s .args .card .now) (no-tag (s .args .card .now) (c .before .if2 .taken)) _ (c .broken2 .ensures)
 
--- src/layout.rt:43:9
 length-at-requires : tie.Need-length-at-requires
 length-at-requires c κs = search needs
 
--- src/layout.rt:45:9
 broken-requires-3 : tie.Need-broken-requires-3
 broken-requires-3 c κs = search needs
 
--- src/layout.rt:45:9
 returns-3 : tie.Need-returns-3
 returns-3 c =
     let s = c .before .before .before .before .before .before .before in
     let e = c .before .before .length-at .ensures .is in
     broken-fields (s .args .card .now) (odd-atoms (s .args .card .now) (λ q. c .before .if3 .taken (ap (λ (x : ℕ). x % 2) e ∙ q))) _ (c .broken3 .ensures)
 
--- src/layout.rt:47:21
 add-if4 : tie.Need-add-if4
 add-if4 c = search needs
 
--- src/layout.rt:48:9
 broken-requires-4 : tie.Need-broken-requires-4
 broken-requires-4 c κs = search needs
 
--- src/layout.rt:48:9
 returns-4 : tie.Need-returns-4
 returns-4 c =
     let s = c .before .before .before .before .before .before .before .before in
     let e = c .before .before .before .length-at .ensures .is in
     broken-fields (s .args .card .now) (wrong-length (s .args .card .now) (λ q. omega (arith, q, e, c .before .if4 .taken))) _ (c .broken4 .ensures)
 
--- src/layout.rt:50:13
 add-if5 : tie.Need-add-if5
 add-if5 c = search needs
 
--- src/layout.rt:50:8
 shared-slice-read-if5 : tie.Need-shared-slice-read-if5
 shared-slice-read-if5 c = search needs
 
--- src/layout.rt:51:9
 broken-requires-5 : tie.Need-broken-requires-5
 broken-requires-5 c κs = search needs
 
--- src/layout.rt:51:9
 returns-5 : tie.Need-returns-5
 returns-5 c =
     let s = c .before .before .before .before .before .before .before .before .before .before in
@@ -91,38 +72,30 @@ returns-5 c =
     broken-fields (s .args .card .now) (no-second-tag (s .args .card .now) (λ q. c .before .if5 .taken (ap (λ (x : ℕ). getD (s .args .card .now) (x + 3) 0) e ∙ q))) _
     (c .broken5 .ensures)
 
--- src/layout.rt:53:29
 add-length-at : tie.Need-add-length-at
 add-length-at c = search needs
 
--- src/layout.rt:53:9
 length-at-requires-2 : tie.Need-length-at-requires-2
 length-at-requires-2 c κs = search needs
 
--- src/layout.rt:55:9
 broken-requires-6 : tie.Need-broken-requires-6
 broken-requires-6 c κs = search needs
 
--- src/layout.rt:55:9
 returns-6 : tie.Need-returns-6
 returns-6 c =
     let s = c .before .before .before .before .before .before .before .before .before .before .before .before in
     let l = c .before .before in
     broken-fields (s .args .card .now) (odd-bonds (s .args .card .now) (λ q. c .before .if6 .taken (ap (λ (x : ℕ). x % 3) (second l) ∙ q))) _ (c .broken6 .ensures)
 
--- src/layout.rt:57:22
 add-if7 : tie.Need-add-if7
 add-if7 c = search needs
 
--- src/layout.rt:57:22
 add-if7-2 : tie.Need-add-if7-2
 add-if7-2 c = search needs
 
--- src/layout.rt:58:9
 broken-requires-7 : tie.Need-broken-requires-7
 broken-requires-7 c κs = search needs
 
--- src/layout.rt:58:9
 returns-7 : tie.Need-returns-7
 returns-7 c =
     let s = c .before .before .before .before .before .before .before .before .before .before .before .before .before in
@@ -130,7 +103,6 @@ returns-7 c =
     broken-fields (s .args .card .now)
     (wrong-length (s .args .card .now) (λ q. c .before .if7 .taken (omega (arith, q, l .before .before .before .before .before .length-at .ensures .is, second l)))) _ (c .broken7 .ensures)
 
--- src/layout.rt:34:1
 returns-8 : tie.Need-returns-8
 returns-8 c =
     let s = c .before .before .before .before .before .before .before .before .before .before .before .before in

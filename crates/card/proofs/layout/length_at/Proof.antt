@@ -4,38 +4,28 @@ use native.Mathlib.Omega.{arith}
 use borrow.Author.Needs.{needs}
 use Rattle.card.proofs.layout.length_at.Statement.{statement}
 use Rattle.card.proofs.layout.length_at.Tie as tie
-use Rattle.card.proofs.layout.length_at.Reads as reads
-use Rattle.card.proofs.layout.length_at.Lts as lts
 
--- src/layout.rt:31:12
 shared-slice-read-result : tie.Need-shared-slice-read-result
 shared-slice-read-result c = search needs
 
--- src/layout.rt:31:12
 cast-result : tie.Need-cast-result
 cast-result c = omega (arith, c .shared-slice-known .given (c .before .args .i))
 
--- src/layout.rt:31:5
 mul-result : tie.Need-mul-result
 mul-result c = omega (arith, c .shared-slice-known .given (c .before .args .i))
 
--- src/layout.rt:31:38
 add-result : tie.Need-add-result
 add-result c = search needs
 
--- src/layout.rt:31:33
 shared-slice-read-result-2 : tie.Need-shared-slice-read-result-2
 shared-slice-read-result-2 c = search needs
 
--- src/layout.rt:31:33
 cast-result-2 : tie.Need-cast-result-2
 cast-result-2 c = omega (arith, c .shared-slice-known2 .given (c .before .before .args .i + 1))
 
--- src/layout.rt:31:5
 add-result-2 : tie.Need-add-result-2
 add-result-2 c = omega (arith, c .shared-slice-known2 .given (c .before .before .args .i + 1), c .shared-slice-known2 .given (c .before .before .args .i))
 
--- src/layout.rt:27:1
 returns : tie.Need-returns
 returns c = record {
   is = rw add-one;

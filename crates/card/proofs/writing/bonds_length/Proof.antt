@@ -1,7 +1,6 @@
-use mathlib.Core.Path.{sym, subst}
+use mathlib.Core.Path.{sym, subst, _≡_, _∙_, ap}
 use Rattle.table.specs.Arrays.{HasRow}
-use mathlib.Core.Path.{_≡_, _∙_, ap}
-use Prim.Native.Nat.{ℕ, _+_, _*_, _-_, _≤_}
+use Prim.Native.Nat.{ℕ, _*_, _-_, _≤_}
 use native.Mathlib.Omega.{arith}
 use Rattle.lists.specs.Upto.{each, sum}
 use Rattle.card.specs.Writing.{rowLength}
@@ -9,10 +8,6 @@ use Rattle.card.proofs.Lengths.{sum-start, sum-more, row-low}
 use borrow.Author.Needs.{needs}
 use Rattle.card.proofs.writing.bonds_length.Statement.{statement}
 use Rattle.card.proofs.writing.bonds_length.Tie as tie
-use Rattle.card.proofs.writing.bonds_length.Reads as reads
-use Rattle.card.proofs.writing.bonds_length.Lts as lts
-use Rattle.card.proofs.writing.narrow.Reads as narrow-reads
-use Rattle.card.proofs.writing.row_length.Reads as row-length-reads
 
 abbrev Inv-loop : tie.InvT-loop
 Inv-loop n degrees near bytes₀ a₀ bytes a = (a ≤ n) × (bytes ≤ 18 * a) × (bytes ≡ sum (each a (rowLength degrees near)))
@@ -28,34 +23,27 @@ row c =
     let e = c .row-length .ensures ∙ ap (rowLength (s .args .degrees .now) (s .args .near .now)) (c .before .narrow .ensures) in
     (e, omega (arith, e, row-low (s .args .degrees .now) (s .args .near .now) (l .loop .a) (s .pre .1 (l .loop .a) (c .before .before .loop-test .taken))))
 
--- src/writing.rt:124:5
 loop-holds : tie.Need-loop-holds Inv-loop μ-loop
 loop-holds c = (omega arith, omega arith, sum-start _)
 
--- src/writing.rt:125:51
 narrow-requires : tie.Need-narrow-requires Inv-loop μ-loop
 narrow-requires c κs = search needs
 
--- src/writing.rt:125:18
 row-length-requires : tie.Need-row-length-requires Inv-loop μ-loop
 row-length-requires c κs =
     let l = c .before .before in
     let s = c .before .before .before in
     subst (HasRow (s .args .degrees .now) (s .args .near .now)) (sym (c .narrow .ensures)) (s .pre .1 (l .loop .a) (c .before .loop-test .taken))
 
--- src/writing.rt:125:9
 add-bytes : tie.Need-add-bytes Inv-loop μ-loop
 add-bytes c = omega (arith, row c, c .before .before .before .loop .inv .1, c .before .before .before .before .pre .0)
 
--- src/writing.rt:126:9
 add-a : tie.Need-add-a Inv-loop μ-loop
 add-a c = search needs
 
--- src/writing.rt:124:5
 loop-less : tie.Need-loop-less Inv-loop μ-loop
 loop-less c = search needs
 
--- src/writing.rt:124:5
 loop-again : tie.Need-loop-again Inv-loop μ-loop
 loop-again c =
     let l = c .before .before .before in
@@ -63,7 +51,6 @@ loop-again c =
     let r = row c in
     (omega arith, omega (arith, l .loop .inv .1), omega (arith, l .loop .inv .2, sum-more (l .loop .a) (rowLength (s .args .degrees .now) (s .args .near .now))))
 
--- src/writing.rt:118:1
 returns : tie.Need-returns Inv-loop μ-loop
 returns c =
     let l = c .before in

@@ -1,15 +1,10 @@
 use borrow.Author.Tests.{lt-ltb, le-ltb}
-use borrow.Author.Needs.{needs}
 use Rattle.card.proofs.writing.piece_length.Statement.{statement}
 use Rattle.card.proofs.writing.piece_length.Tie as tie
-use Rattle.card.proofs.writing.piece_length.Reads as reads
-use Rattle.card.proofs.writing.piece_length.Lts as lts
 
--- src/writing.rt:97:9
 returns : tie.Need-returns
 returns c = simp (lt-ltb _ _ (c .if1 .taken))
 
--- src/writing.rt:93:1
 returns-2 : tie.Need-returns-2
 returns-2 c = simp (le-ltb _ _ (c .if1 .left))
 

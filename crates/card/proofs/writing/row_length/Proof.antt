@@ -10,10 +10,6 @@ use Rattle.card.proofs.Lengths.{sum-start, sum-more, three-or-none}
 use borrow.Author.Needs.{needs}
 use Rattle.card.proofs.writing.row_length.Statement.{statement}
 use Rattle.card.proofs.writing.row_length.Tie as tie
-use Rattle.card.proofs.writing.row_length.Reads as reads
-use Rattle.card.proofs.writing.row_length.Lts as lts
-use Rattle.card.proofs.wide.Reads as wide-reads
-use Rattle.card.proofs.writing.piece_length.Reads as piece-length-reads
 
 abbrev Inv-loop : tie.InvT-loop
 Inv-loop degrees near a i d bytes₀ p₀ bytes p = (p ≤ d) × (bytes ≤ 3 * p) × (bytes ≡ sum (each p (λ q. cond (ltb (a .0) (getD near (6 * i + q) 0)) 3 0)))
@@ -21,65 +17,51 @@ Inv-loop degrees near a i d bytes₀ p₀ bytes p = (p ≤ d) × (bytes ≤ 3 * 
 abbrev μ-loop : tie.MeasureT-loop
 μ-loop degrees near a i d bytes₀ p₀ bytes p = d - p
 
--- src/writing.rt:106:13
 cast-i : tie.Need-cast-i Inv-loop μ-loop
 cast-i c = search needs
 
--- src/writing.rt:107:18
 element-copy-out-wide : tie.Need-element-copy-out-wide Inv-loop μ-loop
 element-copy-out-wide c = search needs
 
--- src/writing.rt:107:9
 wide-requires : tie.Need-wide-requires Inv-loop μ-loop
 wide-requires c κs = search needs
 
--- src/writing.rt:110:5
 loop-holds : tie.Need-loop-holds Inv-loop μ-loop
 loop-holds c = (omega arith, omega arith, sum-start _)
 
--- src/writing.rt:111:46
 mul-t13 : tie.Need-mul-t13 Inv-loop μ-loop
 mul-t13 c = search needs
 
--- src/writing.rt:111:46
 add-t14 : tie.Need-add-t14 Inv-loop μ-loop
 add-t14 c = search needs
 
--- src/writing.rt:111:41
 element-copy-out-t17 : tie.Need-element-copy-out-t17 Inv-loop μ-loop
 element-copy-out-t17 c = search needs
 
--- src/writing.rt:111:18
 piece-length-requires : tie.Need-piece-length-requires Inv-loop μ-loop
 piece-length-requires c κs = search needs
 
--- src/writing.rt:111:9
 add-bytes : tie.Need-add-bytes Inv-loop μ-loop
 add-bytes c =
     let l = c .before .before .before in
     let s = c .before .before .before .before .before .before .before in
     omega (arith, l .loop .inv .1, c .piece-length .ensures, three-or-none (ltb (s .args .a .0) (getD (s .args .near .now) (6 * s .args .a .0 + l .loop .p) 0)), s .pre .few, l .before .wide .ensures)
 
--- src/writing.rt:112:9
 add-p : tie.Need-add-p Inv-loop μ-loop
 add-p c = search needs
 
--- src/writing.rt:110:5
 loop-less : tie.Need-loop-less Inv-loop μ-loop
 loop-less c = search needs
 
--- src/writing.rt:110:5
 loop-again : tie.Need-loop-again Inv-loop μ-loop
 loop-again c =
     let l = c .before .before .before in
-    let s = c .before .before .before .before .before .before .before in
-    (
+    let s = c .before .before .before .before .before .before .before in (
       omega arith,
       omega (arith, l .loop .inv .1, c .piece-length .ensures, three-or-none (ltb (s .args .a .0) (getD (s .args .near .now) (6 * s .args .a .0 + l .loop .p) 0))),
       omega (arith, l .loop .inv .2, c .piece-length .ensures, sum-more (l .loop .p) (λ q. cond (ltb (s .args .a .0) (getD (s .args .near .now) (6 * s .args .a .0 + q) 0)) 3 0)),
     )
 
--- src/writing.rt:102:1
 returns : tie.Need-returns Inv-loop μ-loop
 unfolding rowLength
 returns c =

@@ -1,18 +1,14 @@
-use lib.ListN.{length-set}
+use lib.ListN.{length-set, length}
 use Rattle.card.proofs.Written.{atoms-start, atoms-next}
 use mathlib.Core.List.{flatten}
-use mathlib.Core.Path.{_≡_, refl, sym, _∙_, ap, subst}
-use Prim.Native.Nat.{ℕ, _+_, _*_, _-_, _<_, _≤_}
+use mathlib.Core.Path.{_≡_, refl, subst}
+use Prim.Native.Nat.{ℕ, _+_, _*_, _-_, _≤_}
 use native.Mathlib.Omega.{arith}
-use lib.ListN.{length, getD}
 use Rattle.lists.specs.Upto.{each}
-use Rattle.card.specs.Writing.{atomPiece, slotPiece, rowBytes, Wrote}
+use Rattle.card.specs.Writing.{atomPiece, Wrote}
 use borrow.Author.Needs.{needs}
 use Rattle.card.proofs.writing.write_atoms.Statement.{statement}
 use Rattle.card.proofs.writing.write_atoms.Tie as tie
-use Rattle.card.proofs.writing.write_atoms.Reads as reads
-use Rattle.card.proofs.writing.write_atoms.Lts as lts
-use Rattle.kinds.proofs.number_of.Reads as number-of-reads
 
 abbrev Inv-loop : tie.InvT-loop
 Inv-loop out₀ at n kinds hydrogens a₀ out a =
@@ -21,74 +17,57 @@ Inv-loop out₀ at n kinds hydrogens a₀ out a =
 abbrev μ-loop : tie.MeasureT-loop
 μ-loop out₀ at n kinds hydrogens a₀ out a = n - a
 
--- src/writing.rt:39:5
 loop-holds : tie.Need-loop-holds Inv-loop μ-loop
 loop-holds c = let s = c .before in (omega arith, atoms-start (s .args .kinds .now) (s .args .hydrogens .now) (s .args .out .now) (s .args .at), refl)
 
--- src/writing.rt:40:23
 mul-to : tie.Need-mul-to Inv-loop μ-loop
 mul-to c = search needs
 
--- src/writing.rt:40:18
 add-to : tie.Need-add-to Inv-loop μ-loop
 add-to c = search needs
 
--- src/writing.rt:41:36
 element-copy-out-number-of : tie.Need-element-copy-out-number-of Inv-loop μ-loop
 element-copy-out-number-of c = search needs
 
--- src/writing.rt:41:19
 number-of-requires : tie.Need-number-of-requires Inv-loop μ-loop
 number-of-requires c κs = c .before .before .before .before .pre .2 (c .before .before .loop .a) (c .before .loop-test .taken)
 
--- src/writing.rt:41:9
 slice-write-out : tie.Need-slice-write-out Inv-loop μ-loop
 slice-write-out c = omega (arith, c .before .before .before .before .before .pre .0, c .before .before .before .loop .inv .2, c .before .before .loop-test .taken)
 
--- src/writing.rt:42:23
 element-copy-out-out : tie.Need-element-copy-out-out Inv-loop μ-loop
 element-copy-out-out c = search needs
 
--- src/writing.rt:42:13
 add-out : tie.Need-add-out Inv-loop μ-loop
 add-out c = search needs
 
--- src/writing.rt:42:9
 slice-write-out-2 : tie.Need-slice-write-out-2 Inv-loop μ-loop
 slice-write-out-2 c = simp length-set (omega (arith, c .before .before .before .before .before .before .pre .0, c .before .before .before .before .loop .inv .2, c .before .before .before .loop-test .taken))
 
--- src/writing.rt:43:9
 add-a : tie.Need-add-a Inv-loop μ-loop
 add-a c = search needs
 
--- src/writing.rt:39:5
 loop-less : tie.Need-loop-less Inv-loop μ-loop
 loop-less c = search needs
 
--- src/writing.rt:39:5
 loop-again : tie.Need-loop-again Inv-loop μ-loop
 loop-again c =
     let l = c .before .before .before .before in
-    let s = c .before .before .before .before .before .before in
-    (
+    let s = c .before .before .before .before .before .before in (
       omega arith,
       atoms-next (s .args .kinds .now) (s .args .hydrogens .now) (s .args .out .now) (s .args .at) (l .loop .out) (l .loop .a) _ (c .before .number-of .ensures) (l .loop .inv .1),
       simp length-set (l .loop .inv .2),
     )
 
--- src/writing.rt:45:10
 mul-result : tie.Need-mul-result Inv-loop μ-loop
 mul-result c = search needs
 
--- src/writing.rt:45:5
 add-result : tie.Need-add-result Inv-loop μ-loop
 add-result c = search needs
 
--- src/writing.rt:34:1
 same-length : tie.Need-same-length Inv-loop μ-loop
 same-length c = c .before .loop .inv .2
 
--- src/writing.rt:34:1
 returns : tie.Need-returns Inv-loop μ-loop
 returns c =
     let l = c .before in

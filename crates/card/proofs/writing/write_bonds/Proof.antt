@@ -1,6 +1,6 @@
 use mathlib.Core.List.{flatten}
 use mathlib.Core.Path.{_≡_, refl, sym, _∙_, ap, subst}
-use Prim.Native.Nat.{ℕ, _+_, _-_, _<_, _≤_}
+use Prim.Native.Nat.{ℕ, _-_, _≤_}
 use native.Mathlib.Omega.{arith}
 use lib.ListN.{length}
 use Rattle.lists.specs.Upto.{each}
@@ -10,10 +10,6 @@ use Rattle.card.proofs.Written.{wrote-long, wrote-start, wrote-at, wrot
 use borrow.Author.Needs.{needs}
 use Rattle.card.proofs.writing.write_bonds.Statement.{statement}
 use Rattle.card.proofs.writing.write_bonds.Tie as tie
-use Rattle.card.proofs.writing.write_bonds.Reads as reads
-use Rattle.card.proofs.writing.write_bonds.Lts as lts
-use Rattle.card.proofs.writing.narrow.Reads as narrow-reads
-use Rattle.card.proofs.writing.write_row.Reads as write-row-reads
 
 abbrev Inv-loop : tie.InvT-loop
 Inv-loop out₀ at n degrees near codes to₀ a₀ out to a =
@@ -22,21 +18,17 @@ Inv-loop out₀ at n degrees near codes to₀ a₀ out to a =
 abbrev μ-loop : tie.MeasureT-loop
 μ-loop out₀ at n degrees near codes to₀ a₀ out to a = n - a
 
--- src/writing.rt:86:5
 loop-holds : tie.Need-loop-holds Inv-loop μ-loop
 loop-holds c = let s = c .before in (omega arith, wrote-start (rowBytes (s .args .degrees .now) (s .args .near .now) (s .args .codes .now)) (s .args .out .now) (s .args .at), refl)
 
--- src/writing.rt:87:62
 narrow-requires : tie.Need-narrow-requires Inv-loop μ-loop
 narrow-requires c κs = omega (arith, c .before .before .before .before .pre .0 (c .before .before .loop .a) (c .before .loop-test .taken) .atom)
 
--- src/writing.rt:87:9
 write-row-requires : tie.Need-write-row-requires Inv-loop μ-loop
 write-row-requires c κs =
     let l = c .before .before .before in
     let s = c .before .before .before .before .before in
-    let h = c .before .before .loop-test .taken in
-    (
+    let h = c .before .before .loop-test .taken in (
       subst (HasRow (s .args .degrees .now) (s .args .near .now)) (sym (c .narrow .ensures)) (s .pre .0 (l .loop .a) h),
       omega (
         arith,
@@ -48,31 +40,25 @@ write-row-requires c κs =
       ),
     )
 
--- src/writing.rt:88:9
 add-a : tie.Need-add-a Inv-loop μ-loop
 add-a c = search needs
 
--- src/writing.rt:86:5
 loop-less : tie.Need-loop-less Inv-loop μ-loop
 loop-less c = search needs
 
--- src/writing.rt:86:5
 loop-again : tie.Need-loop-again Inv-loop μ-loop
 loop-again c =
     let l = c .before .before .before .before .before .before in
     let s = c .before .before .before .before .before .before .before .before in
-    let w = wrote-at (rowBytes (s .args .degrees .now) (s .args .near .now) (s .args .codes .now)) (l .loop .out) _ (l .loop .to) _ _ (l .loop .a) (c .before .before .before .narrow .ensures) (c .before .before .write-row .ensures) in
-    (
+    let w = wrote-at (rowBytes (s .args .degrees .now) (s .args .near .now) (s .args .codes .now)) (l .loop .out) _ (l .loop .to) _ _ (l .loop .a) (c .before .before .before .narrow .ensures) (c .before .before .write-row .ensures) in (
       omega arith,
       wrote-next (rowBytes (s .args .degrees .now) (s .args .near .now) (s .args .codes .now)) (s .args .out .now) (l .loop .out) _ (s .args .at) (l .loop .to) _ (l .loop .a) (l .loop .inv .1) w,
       wrote-long (l .loop .out) _ (l .loop .to) _ _ w ∙ l .loop .inv .2,
     )
 
--- src/writing.rt:80:1
 same-length : tie.Need-same-length Inv-loop μ-loop
 same-length c = c .before .loop .inv .2
 
--- src/writing.rt:80:1
 returns : tie.Need-returns Inv-loop μ-loop
 returns c =
     let l = c .before in

@@ -4,47 +4,34 @@ use Rattle.card.proofs.Written.{wrote-head}
 use borrow.Author.Needs.{needs}
 use Rattle.card.proofs.writing.write_head.Statement.{statement}
 use Rattle.card.proofs.writing.write_head.Tie as tie
-use Rattle.card.proofs.writing.write_head.Reads as reads
-use Rattle.card.proofs.writing.write_head.Lts as lts
-use Rattle.card.proofs.writing.narrow.Reads as narrow-reads
 
--- src/writing.rt:27:5
 slice-write-out : tie.Need-slice-write-out
 slice-write-out c = search needs
 
--- src/writing.rt:28:19
 narrow-requires : tie.Need-narrow-requires
 narrow-requires c κs = search needs
 
--- src/writing.rt:28:9
 add-out : tie.Need-add-out
 add-out c = search needs
 
--- src/writing.rt:28:5
 slice-write-out-2 : tie.Need-slice-write-out-2
 slice-write-out-2 c = simp length-set (omega (arith, c .before .before .pre .0))
 
--- src/writing.rt:29:19
 narrow-requires-2 : tie.Need-narrow-requires-2
 narrow-requires-2 c κs = search needs
 
--- src/writing.rt:29:9
 add-out-2 : tie.Need-add-out-2
 add-out-2 c = search needs
 
--- src/writing.rt:29:5
 slice-write-out-3 : tie.Need-slice-write-out-3
 slice-write-out-3 c = simp length-set (omega (arith, c .before .before .before .pre .0))
 
--- src/writing.rt:30:5
 add-result : tie.Need-add-result
 add-result c = search needs
 
--- src/writing.rt:23:1
 same-length : tie.Need-same-length
 same-length c = search needs
 
--- src/writing.rt:23:1
 returns : tie.Need-returns
 returns c = let s = c .before .before .before in wrote-head (s .args .out .now) (s .args .at) (s .args .tag) _ _ _ _ (c .before .narrow .ensures) (c .narrow2 .ensures)
 

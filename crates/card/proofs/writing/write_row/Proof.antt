@@ -1,18 +1,14 @@
 use Rattle.card.proofs.Written.{wrote-long, wrote-start, wrote-next, pieces-room}
 use mathlib.Core.List.{flatten}
-use mathlib.Core.Path.{_≡_, refl, sym, _∙_, ap, subst}
-use Prim.Native.Nat.{ℕ, _+_, _*_, _-_, _<_, _≤_}
+use mathlib.Core.Path.{_≡_, refl, _∙_, subst}
+use Prim.Native.Nat.{ℕ, _-_, _≤_}
 use native.Mathlib.Omega.{arith}
 use lib.ListN.{length, getD}
 use Rattle.lists.specs.Upto.{each}
-use Rattle.card.specs.Writing.{atomPiece, slotPiece, rowBytes, Wrote}
+use Rattle.card.specs.Writing.{slotPiece, rowBytes, Wrote}
 use borrow.Author.Needs.{needs}
 use Rattle.card.proofs.writing.write_row.Statement.{statement}
 use Rattle.card.proofs.writing.write_row.Tie as tie
-use Rattle.card.proofs.writing.write_row.Reads as reads
-use Rattle.card.proofs.writing.write_row.Lts as lts
-use Rattle.card.proofs.wide.Reads as wide-reads
-use Rattle.card.proofs.writing.write_bond.Reads as write-bond-reads
 
 abbrev Inv-loop : tie.InvT-loop
 Inv-loop out₀ at degrees near codes a i d to₀ p₀ out to p =
@@ -21,39 +17,30 @@ Inv-loop out₀ at degrees near codes a i d to₀ p₀ out to p =
 abbrev μ-loop : tie.MeasureT-loop
 μ-loop out₀ at degrees near codes a i d to₀ p₀ out to p = d - p
 
--- src/writing.rt:67:13
 cast-i : tie.Need-cast-i Inv-loop μ-loop
 cast-i c = search needs
 
--- src/writing.rt:68:18
 element-copy-out-wide : tie.Need-element-copy-out-wide Inv-loop μ-loop
 element-copy-out-wide c = search needs
 
--- src/writing.rt:68:9
 wide-requires : tie.Need-wide-requires Inv-loop μ-loop
 wide-requires c κs = search needs
 
--- src/writing.rt:71:5
 loop-holds : tie.Need-loop-holds Inv-loop μ-loop
 loop-holds c = let s = c .before .before .before .before in (omega arith, wrote-start (slotPiece (s .args .near .now) (s .args .codes .now) (s .args .a .0)) (s .args .out .now) (s .args .at), refl)
 
--- src/writing.rt:72:20
 mul-slot : tie.Need-mul-slot Inv-loop μ-loop
 mul-slot c = search needs
 
--- src/writing.rt:72:20
 add-slot : tie.Need-add-slot Inv-loop μ-loop
 add-slot c = search needs
 
--- src/writing.rt:73:44
 element-copy-out-t21 : tie.Need-element-copy-out-t21 Inv-loop μ-loop
 element-copy-out-t21 c = search needs
 
--- src/writing.rt:73:57
 element-copy-out-write-bond : tie.Need-element-copy-out-write-bond Inv-loop μ-loop
 element-copy-out-write-bond c = search needs
 
--- src/writing.rt:73:9
 write-bond-requires : tie.Need-write-bond-requires Inv-loop μ-loop
 unfolding rowBytes
 write-bond-requires c κs =
@@ -67,31 +54,25 @@ write-bond-requires c κs =
       pieces-room (slotPiece (s .args .near .now) (s .args .codes .now) (s .args .a .0)) (getD (s .args .degrees .now) (s .args .a .0) 0) (l .loop .p) (omega (arith, l .before .wide .ensures)),
     )
 
--- src/writing.rt:74:9
 add-p : tie.Need-add-p Inv-loop μ-loop
 add-p c = search needs
 
--- src/writing.rt:71:5
 loop-less : tie.Need-loop-less Inv-loop μ-loop
 loop-less c = search needs
 
--- src/writing.rt:71:5
 loop-again : tie.Need-loop-again Inv-loop μ-loop
 loop-again c =
     let l = c .before .before .before .before .before .before .before in
     let s = c .before .before .before .before .before .before .before .before .before .before .before .before in
-    let w = c .before .before .write-bond .ensures in
-    (
+    let w = c .before .before .write-bond .ensures in (
       omega arith,
       wrote-next (slotPiece (s .args .near .now) (s .args .codes .now) (s .args .a .0)) (s .args .out .now) (l .loop .out) _ (s .args .at) (l .loop .to) _ (l .loop .p) (l .loop .inv .1) w,
       wrote-long (l .loop .out) _ (l .loop .to) _ _ w ∙ l .loop .inv .2,
     )
 
--- src/writing.rt:63:1
 same-length : tie.Need-same-length Inv-loop μ-loop
 same-length c = c .before .loop .inv .2
 
--- src/writing.rt:63:1
 returns : tie.Need-returns Inv-loop μ-loop
 unfolding rowBytes
 returns c =

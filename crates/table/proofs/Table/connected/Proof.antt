@@ -8,9 +8,6 @@ use Rattle.table.proofs.Flooding.{Going, flood-low, flood-row, flood-st
 use borrow.Author.Needs.{needs}
 use Rattle.table.proofs.Table.connected.Statement.{statement}
 use Rattle.table.proofs.Table.connected.Tie as tie
-use Rattle.table.proofs.Table.connected.Reads as reads
-use Rattle.table.proofs.Table.connected.Lts as lts
-use Rattle.table.proofs.flood.visit.Reads as visit-reads
 
 abbrev Inv-loop : tie.InvT-loop
 Inv-loop self n seen₀ queue₀ end₀ head₀ seen queue end head =
@@ -22,19 +19,15 @@ abbrev μ-loop : tie.MeasureT-loop
 low : (l : tie.At-loop Inv-loop μ-loop) → l .loop .end ≤ 64
 low l = flood-low (arraysOf (l .before .args .t1)) (l .before .pre .0) (record { seen = l .loop .seen; queue = l .loop .queue; end = l .loop .end }) (l .loop .inv .1)
 
--- src/lib.rt:115:9
 array-write-seen : tie.Need-array-write-seen Inv-loop μ-loop
 array-write-seen c = search needs
 
--- src/lib.rt:118:9
 loop-holds : tie.Need-loop-holds Inv-loop μ-loop
 loop-holds c = flood-start (arraysOf (c .args .t1)) (c .pre .2)
 
--- src/lib.rt:119:28
 array-read-t14 : tie.Need-array-read-t14 Inv-loop μ-loop
 array-read-t14 c = omega (arith, low (c .before))
 
--- src/lib.rt:120:13
 visit-requires : tie.Need-visit-requires Inv-loop μ-loop
 visit-requires c κs =
     let l = c .before .before .before .before .before .before in
@@ -42,15 +35,12 @@ visit-requires c κs =
     let r = flood-row (arraysOf (s .args .t1)) (s .pre .0) (record { seen = l .loop .seen; queue = l .loop .queue; end = l .loop .end }) (l .loop .head) (l .loop .inv .1) (c .before .before .before .before .before .loop-test .taken) in
     (l .loop .inv .1 .counted, r .0, r .1)
 
--- src/lib.rt:121:13
 add-head : tie.Need-add-head Inv-loop μ-loop
 add-head c = omega (arith, low (c .before .before .before .before .before .before .before))
 
--- src/lib.rt:118:9
 loop-less : tie.Need-loop-less Inv-loop μ-loop
 loop-less c = omega (arith, low (c .before .before .before .before .before .before .before))
 
--- src/lib.rt:118:9
 loop-again : tie.Need-loop-again Inv-loop μ-loop
 loop-again c =
     let l = c .before .before .before .before .before .before .before in
@@ -58,7 +48,6 @@ loop-again c =
     subst (λ (f : Flood). Going (arraysOf (s .args .t1)) f (l .loop .head + 1)) (sym (c .visit .ensures))
     (flood-step (arraysOf (s .args .t1)) (s .pre .0) (record { seen = l .loop .seen; queue = l .loop .queue; end = l .loop .end }) (l .loop .head) (l .loop .inv) (c .before .before .before .before .before .before .loop-test .taken))
 
--- src/lib.rt:108:5
 returns : tie.Need-returns Inv-loop μ-loop
 unfolding asMolecule
 returns c =

@@ -1,33 +1,24 @@
 use Rattle.table.specs.View.{viewOf}
 use Rattle.table.proofs.Joins.{first-half, second-half, both-halves}
-use borrow.Author.Needs.{needs}
 use Rattle.table.proofs.Table.with_bond.Statement.{statement}
 use Rattle.table.proofs.Table.with_bond.Tie as tie
-use Rattle.table.proofs.Table.with_bond.Reads as reads
-use Rattle.table.proofs.Table.with_bond.Lts as lts
-use Rattle.table.proofs.Table.with_half.Reads as with-half-reads
 
--- src/lib.rt:104:9
 with-half-requires : tie.Need-with-half-requires
 with-half-requires c κs = (c .pre .0, first-half (viewOf (c .args .self)) (c .args .a .0) (c .args .b .0) (c .args .code) (c .pre .1))
 
--- src/lib.rt:104:9
 with-half-requires-2 : tie.Need-with-half-requires-2
 with-half-requires-2 c κs =
-    let s = c .before in
-    (
+    let s = c .before in (
       c .with-half .ensures .0,
       second-half (viewOf (s .args .self)) (s .args .a .0) (s .args .b .0) (s .args .code) (s .pre .1) (viewOf (c .with-half .result)) (c .with-half .ensures .1),
     )
 
--- src/lib.rt:100:5
 returns : tie.Need-returns
 returns c =
-    let s = c .before .before in
-    (
+    let s = c .before .before in (
       c .with-half2 .ensures .0,
       both-halves (viewOf (s .args .self)) (s .args .a .0) (s .args .b .0) (s .args .code) (s .pre .1) (viewOf (c .before .with-half .result)) (c .before .with-half .ensures .1)
-      (viewOf (c .with-half2 .result)) (c .with-half2 .ensures .1),
+          (viewOf (c .with-half2 .result)) (c .with-half2 .ensures .1),
     )
 
 pub with-bond-spec : {M : Type 1} → statement M

@@ -7,12 +7,6 @@ use Rattle.table.proofs.Halves.{half-few, half-inside, half-room, half}
 use borrow.Author.Needs.{needs}
 use Rattle.table.proofs.Table.with_half.Statement.{statement}
 use Rattle.table.proofs.Table.with_half.Tie as tie
-use Rattle.table.proofs.Table.with_half.Reads as reads
-use Rattle.table.proofs.Table.with_half.Lts as lts
-use Rattle.table.proofs.narrow.Reads as narrow-reads
-use Rattle.table.proofs.rows.place.Reads as place-reads
-use Rattle.table.proofs.rows.put.Reads as put-reads
-use Rattle.table.proofs.wide.Reads as wide-reads
 
 few : (s : tie.Start) → getD (s .args .t1 .degrees) (s .args .a .0) 0 < 6
 few s = half-few (arraysOf (s .args .t1)) (s .pre .0) (s .args .a .0) (s .args .b .0) (s .args .code) (s .pre .1)
@@ -33,63 +27,48 @@ room c =
       half-room (arraysOf (s .args .t1)) (s .pre .0) (s .args .a .0) (s .args .b .0) (s .args .code) (s .pre .1),
     )
 
--- src/lib.rt:88:17
 cast-i : tie.Need-cast-i
 cast-i c = search needs
 
--- src/lib.rt:89:21
 mul-first : tie.Need-mul-first
 mul-first c = search needs
 
--- src/lib.rt:90:22
 element-copy-out-wide : tie.Need-element-copy-out-wide
 element-copy-out-wide c = inside (c .before)
 
--- src/lib.rt:90:13
 wide-requires : tie.Need-wide-requires
 wide-requires c κs = search needs
 
--- src/lib.rt:91:13
 place-requires : tie.Need-place-requires
 place-requires c κs = let s = c .before .before .before .before .before .before in record { atom = inside s; few = omega (arith, few s); long = s .pre .0 .nearLong }
 
--- src/lib.rt:93:32
 add-put : tie.Need-add-put
 add-put c = let s = c .before .before .before .before .before .before .before .before in omega (arith, room (c .before), few s, inside s)
 
--- src/lib.rt:93:43
 add-put-2 : tie.Need-add-put-2
 add-put-2 c = let s = c .before .before .before .before .before .before .before .before in omega (arith, deg (c .before), few s, inside s)
 
--- src/lib.rt:93:9
 put-requires : tie.Need-put-requires
 put-requires c κs = let s = c .before .before .before .before .before .before .before .before in (omega (arith, room (c .before), deg (c .before)), omega (arith, deg (c .before), few s, inside s), s .pre .0 .nearLong)
 
--- src/lib.rt:94:33
 add-put-3 : tie.Need-add-put-3
 add-put-3 c = let s = c .before .before .before .before .before .before .before .before .before .before in omega (arith, room (c .before .before .before), few s, inside s)
 
--- src/lib.rt:94:44
 add-put-4 : tie.Need-add-put-4
 add-put-4 c = let s = c .before .before .before .before .before .before .before .before .before .before in omega (arith, deg (c .before .before .before), few s, inside s)
 
--- src/lib.rt:94:9
 put-requires-2 : tie.Need-put-requires-2
 put-requires-2 c κs = let s = c .before .before .before .before .before .before .before .before .before .before in (omega (arith, room (c .before .before .before), deg (c .before .before .before)), omega (arith, deg (c .before .before .before), few s, inside s), s .pre .0 .codesLong)
 
--- src/lib.rt:95:31
 add-narrow : tie.Need-add-narrow
 add-narrow c = omega (arith, deg (c .before .before .before .before), few (c .before .before .before .before .before .before .before .before .before .before .before))
 
--- src/lib.rt:95:24
 narrow-requires : tie.Need-narrow-requires
 narrow-requires c κs = omega (arith, deg (c .before .before .before .before), few (c .before .before .before .before .before .before .before .before .before .before .before))
 
--- src/lib.rt:95:9
 element-write-t : tie.Need-element-write-t
 element-write-t c = inside (c .before .before .before .before .before .before .before .before .before .before .before .before)
 
--- src/lib.rt:84:5
 returns : tie.Need-returns
 returns c =
     let s = c .before .before .before .before .before .before .before .before .before .before .before .before in

@@ -1,4 +1,3 @@
-use mathlib.Core.Path.{_≡_}
 use Prim.Native.Nat.{_<_}
 use native.Mathlib.Omega.{arith}
 use borrow.Author.Tests.{eq-eqb, ne-eqb}
@@ -7,38 +6,29 @@ use Rattle.table.proofs.FloodLaws.{counted-room}
 use borrow.Author.Needs.{needs}
 use Rattle.table.proofs.flood.see.Statement.{statement}
 use Rattle.table.proofs.flood.see.Tie as tie
-use Rattle.table.proofs.flood.see.Reads as reads
-use Rattle.table.proofs.flood.see.Lts as lts
 
 room : (c : tie.Else1) → c .before .before .before .args .end < 64
 room c = let s = c .before .before .before in counted-room _ (s .args .b .0) (s .pre .0) (s .pre .1) (c .if1 .left)
 
--- src/flood.rt:16:13
 cast-i : tie.Need-cast-i
 cast-i c = search needs
 
--- src/flood.rt:17:8
 element-copy-out-if1 : tie.Need-element-copy-out-if1
 element-copy-out-if1 c = search needs
 
--- src/flood.rt:18:9
 returns : tie.Need-returns
 unfolding see
 returns c = rw (ne-eqb _ _ (c .if1 .taken))
 
--- src/flood.rt:20:5
 element-write-seen : tie.Need-element-write-seen
 element-write-seen c = search needs
 
--- src/flood.rt:21:5
 element-write-queue : tie.Need-element-write-queue
 element-write-queue c = room c
 
--- src/flood.rt:22:5
 add-result : tie.Need-add-result
 add-result c = omega (arith, room c)
 
--- src/flood.rt:12:1
 returns-2 : tie.Need-returns-2
 unfolding see
 returns-2 c = rw (eq-eqb _ _ (c .if1 .left))

@@ -1,0 +1,163 @@
+-- An item judged by a state's counters: one law for each answer of the code.
+use Prim.Native.Nat.{ℕ, _+_, _-_, _≤_, _<_}
+use mathlib.Core.Path.{_≡_, refl, sym, ap, _∙_}
+use mathlib.Core.List.{map}
+use mathlib.Core.Bool.{Bool, true, false, cond}
+use native.Mathlib.Omega.{arith}
+use lib.ListN.{length, getD}
+use lib.Dec.{eqb, ltb, leb}
+use borrow.Author.Tests.{eq-eqb, ne-eqb, lt-ltb, le-ltb, le-leb, lt-leb}
+use Rattle.lists.specs.Upto.{each}
+use Rattle.lists.specs.Tests.{some}
+use Rattle.lists.proofs.Upto.{map-each}
+use Rattle.molecule.specs.Bonds.{joins}
+use Rattle.sling.specs.Items.{at, atom, ring}
+use Rattle.sling.specs.Faults.{itemFault}
+use Rattle.text.specs.declared.state.State.{State}
+use Rattle.text.specs.Holding.{bondAt, viewOf, Held, Ready, bit, hBit, hBond}
+use Rattle.text.specs.Judging.{hBroken, overIn, overOn, pairIn}
+use Rattle.text.proofs.ReachedLaws.{reached-reader, reached-room}
+use Rattle.text.proofs.StateLaws.{view-places, view-kind}
+use Rattle.text.proofs.FaultLaws.{atomFault, ringFault, atom-fault, ring-fault}
+
+pub ready : (st : State) → Held st → (st .n ≡ 0 → ⊥) → Ready st
+ready st h n =
+    let t = h .tallied in
+    let m = reached-room (viewOf st) (h .reached) in
+    record {
+      held = h;
+      from = let e = view-places st t in let c = reached-reader (viewOf st) (h .reached) .cursor (omega arith) in omega arith;
+      places = t .places;
+      atoms = omega (arith, m .atoms, t .heavyAtoms);
+      total = omega (arith, m .hydrogens, t .hydrogenAtoms);
+      bonds = omega (arith, m .bonds, t .heavyBonds);
+    }
+
+module _ (st : State) (R : Ready st) where
+  abbrev c : ℕ
+  c = st .cursor .0
+
+  abbrev kc : ℕ
+  kc = getD (st .kinds) (st .cursor .0) 0
+
+  abbrev hc : ℕ
+  hc = getD (st .hydrogens) (st .cursor .0) 0
+
+  abbrev dc : ℕ
+  dc = getD (st .degrees) (st .cursor .0) 0
+
+  some-atom : 0 < length (viewOf st .kinds)
+  some-atom = omega (arith, view-places st (R .held .tallied), R .from)
+
+  low : st .cursor .0 < 192
+  low = omega (arith, R .from, R .places)
+
+  module _ (m k : ℕ) where
+    judged : atomFault m k kc hc dc (st .atoms) (st .total) (st .bonds) ≡ itemFault (viewOf st) (atom m k)
+    judged =
+        let t = R .held .tallied in
+        atom-fault (viewOf st) (reached-reader (viewOf st) (R .held .reached)) some-atom m k kc hc dc (st .atoms) (st .total) (st .bonds)
+        (sym (view-kind st c (R .from))) (t .hydrogensOn c low) (t .bondsOn c low) (t .heavyAtoms) (t .hydrogenAtoms) (t .heavyBonds)
+
+    pub atom-3 : 24 < k → 3 ≡ itemFault (viewOf st) (atom m k)
+    atom-3 h = sym (rw (lt-ltb 24 k h)) ∙ judged
+
+    module _ (known : k ≤ 24) where
+      pub atom-7 : hBroken kc k m hc ≡ true → 7 ≡ itemFault (viewOf st) (atom m k)
+      atom-7 e = sym (rw (le-ltb 24 k known, e)) ∙ judged
+
+      module _ (e₂ : hBroken kc k m hc ≡ false) where
+        pub atom-7′ : hBroken k kc m 0 ≡ true → 7 ≡ itemFault (viewOf st) (atom m k)
+        atom-7′ e = sym (rw (le-ltb 24 k known, e₂, e)) ∙ judged
+
+        module _ (e₃ : hBroken k kc m 0 ≡ false) (x h : ℕ) (ex : x ≡ bit (hBit k)) (eh : h ≡ bit (hBond kc k)) where
+          counted : (b : Bool) → overIn (st .atoms + 1 - x) (st .total + x) (st .bonds + 1 - h) ≡ b
+              → overIn (st .atoms + 1 - bit (hBit k)) (st .total + bit (hBit k)) (st .bonds + 1 - bit (hBond kc k)) ≡ b
+          counted b e = rw (← ex, ← eh) e
+
+          pub atom-4 : overIn (st .atoms + 1 - x) (st .total + x) (st .bonds + 1 - h) ≡ true → 4 ≡ itemFault (viewOf st) (atom m k)
+          atom-4 e = sym (rw (le-ltb 24 k known, e₂, e₃, counted true e)) ∙ judged
+
+          module _ (e₄ : overIn (st .atoms + 1 - x) (st .total + x) (st .bonds + 1 - h) ≡ false) (u w : ℕ) (eu : u ≡ hc) (ew : w ≡ dc) where
+            counted-on : (b : Bool) → overOn (u + h) (w + 1 - h) ≡ b → overOn (hc + bit (hBond kc k)) (dc + 1 - bit (hBond kc k)) ≡ b
+            counted-on b e = rw (← eu, ← ew, ← eh) e
+
+            pub atom-4′ : overOn (u + h) (w + 1 - h) ≡ true → 4 ≡ itemFault (viewOf st) (atom m k)
+            atom-4′ e = sym (rw (le-ltb 24 k known, e₂, e₃, counted false e₄, counted-on true e)) ∙ judged
+
+            pub atom-0 : overOn (u + h) (w + 1 - h) ≡ false → 0 ≡ itemFault (viewOf st) (atom m k)
+            atom-0 e = sym (rw (le-ltb 24 k known, e₂, e₃, counted false e₄, counted-on false e)) ∙ judged
+
+  module _ (m p : ℕ) where
+    abbrev kp : ℕ
+    kp = getD (st .kinds) p 0
+
+    abbrev hp : ℕ
+    hp = getD (st .hydrogens) p 0
+
+    abbrev dp : ℕ
+    dp = getD (st .degrees) p 0
+
+    abbrev pair : Bool
+    pair = some (each (st .drawn) (pairIn (st .one) (st .two) (st .cursor .0) p))
+
+    pair-is : pair ≡ some (map (joins (st .cursor .0) p) (viewOf st .bonds))
+    pair-is = ap some (sym (map-each (joins (st .cursor .0) p) (st .drawn) (bondAt st)))
+
+    -- where the place is not there, nothing else is looked at
+    pub ring-5 : st .n ≤ p → 5 ≡ itemFault (viewOf st) (ring m (at p))
+    unfolding itemFault
+    ring-5 h =
+        let e = view-places st (R .held .tallied) in
+        let l : length (viewOf st .kinds) ≤ p = omega arith in
+        sym (rw (ne-eqb (length (viewOf st .kinds)) 0 (λ z. omega (arith, some-atom)), le-leb _ _ l))
+
+    module _ (there : p < st .n) where
+      fit : p < 192
+      fit = omega (arith, R .places)
+
+      judged-ring : ringFault m (st .n) p c kc kp hc hp dc dp (st .atoms) (st .total) (st .bonds) pair ≡ itemFault (viewOf st) (ring m (at p))
+      judged-ring =
+          let t = R .held .tallied in
+          ring-fault (viewOf st) (reached-reader (viewOf st) (R .held .reached)) some-atom m p (st .n) kc kp hc hp dc dp (st .atoms) (st .total) (st .bonds) pair
+          (sym (view-places st t)) (sym (view-kind st c (R .from))) (sym (view-kind st p there)) (t .hydrogensOn c low) (t .hydrogensOn p fit) (t .bondsOn c low) (t .bondsOn p fit)
+          (t .heavyAtoms) (t .hydrogenAtoms) (t .heavyBonds) pair-is
+
+      pub ring-7 : hBroken kc kp m hc ≡ true → 7 ≡ itemFault (viewOf st) (ring m (at p))
+      ring-7 e = sym (rw (lt-leb (st .n) p there, e)) ∙ judged-ring
+
+      module _ (e₁ : hBroken kc kp m hc ≡ false) where
+        pub ring-7′ : hBroken kp kc m hp ≡ true → 7 ≡ itemFault (viewOf st) (ring m (at p))
+        ring-7′ e = sym (rw (lt-leb (st .n) p there, e₁, e)) ∙ judged-ring
+
+        module _ (e₂ : hBroken kp kc m hp ≡ false) where
+          pub ring-6 : st .cursor .0 ≡ p → 6 ≡ itemFault (viewOf st) (ring m (at p))
+          ring-6 e = sym (rw (lt-leb (st .n) p there, e₁, e₂, eq-eqb _ _ e)) ∙ judged-ring
+
+          module _ (e₃ : st .cursor .0 ≡ p → ⊥) where
+            pub ring-6′ : pair ≡ true → 6 ≡ itemFault (viewOf st) (ring m (at p))
+            ring-6′ e = sym (rw (lt-leb (st .n) p there, e₁, e₂, ne-eqb _ _ e₃, e)) ∙ judged-ring
+
+            module _ (e₄ : pair ≡ false) (h : ℕ) (eh : h ≡ bit (hBond kc kp)) where
+              in-all : (b : Bool) → overIn (st .atoms) (st .total) (st .bonds + 1 - h) ≡ b → overIn (st .atoms) (st .total) (st .bonds + 1 - bit (hBond kc kp)) ≡ b
+              in-all b e = rw (← eh) e
+
+              pub ring-4 : overIn (st .atoms) (st .total) (st .bonds + 1 - h) ≡ true → 4 ≡ itemFault (viewOf st) (ring m (at p))
+              ring-4 e = sym (rw (lt-leb (st .n) p there, e₁, e₂, ne-eqb _ _ e₃, e₄, in-all true e)) ∙ judged-ring
+
+              module _ (e₅ : overIn (st .atoms) (st .total) (st .bonds + 1 - h) ≡ false) (u w : ℕ) (eu : u ≡ hc) (ew : w ≡ dc) where
+                from-on : (b : Bool) → overOn (u + h) (w + 1 - h) ≡ b → overOn (hc + bit (hBond kc kp)) (dc + 1 - bit (hBond kc kp)) ≡ b
+                from-on b e = rw (← eu, ← ew, ← eh) e
+
+                pub ring-4′ : overOn (u + h) (w + 1 - h) ≡ true → 4 ≡ itemFault (viewOf st) (ring m (at p))
+                ring-4′ e = sym (rw (lt-leb (st .n) p there, e₁, e₂, ne-eqb _ _ e₃, e₄, in-all false e₅, from-on true e)) ∙ judged-ring
+
+                module _ (e₆ : overOn (u + h) (w + 1 - h) ≡ false) (y z : ℕ) (ey : y ≡ hp) (ez : z ≡ dp) where
+                  to-on : (b : Bool) → overOn (y + h) (z + 1 - h) ≡ b → overOn (hp + bit (hBond kc kp)) (dp + 1 - bit (hBond kc kp)) ≡ b
+                  to-on b e = rw (← ey, ← ez, ← eh) e
+
+                  pub ring-4″ : overOn (y + h) (z + 1 - h) ≡ true → 4 ≡ itemFault (viewOf st) (ring m (at p))
+                  ring-4″ e = sym (rw (lt-leb (st .n) p there, e₁, e₂, ne-eqb _ _ e₃, e₄, in-all false e₅, from-on false e₆, to-on true e)) ∙ judged-ring
+
+                  pub ring-0 : overOn (y + h) (z + 1 - h) ≡ false → 0 ≡ itemFault (viewOf st) (ring m (at p))
+                  ring-0 e = sym (rw (lt-leb (st .n) p there, e₁, e₂, ne-eqb _ _ e₃, e₄, in-all false e₅, from-on false e₆, to-on false e)) ∙ judged-ring

@@ -1,0 +1,11 @@
+pub mod NumberLaws
+pub mod ScanLaws
+pub mod ReachedLaws
+pub mod StateLaws
+pub mod FaultLaws
+pub mod JudgedLaws
+pub mod AfterLaws
+pub mod ReadLaws
+pub mod FoldLaws
+pub mod LinkLaws
+pub mod AnswerLaws

@@ -1,0 +1,6 @@
+pub mod Scanning
+pub mod Holding
+pub mod Judging
+pub mod Outcomes
+pub mod Folding
+pub mod Answering

@@ -1,0 +1,217 @@
+// Judging an item.
+ghost use mathlib.Core.Path.{_≡_};
+ghost use mathlib.Core.Bool.{_&&_};
+ghost use Prim.Native.Nat.{_≤_, _<_};
+ghost use lib.Dec.{eqb};
+ghost use Rattle.lists.specs.Upto.{each};
+ghost use Rattle.lists.specs.Tests.{some};
+ghost use Rattle.molecule.specs.Bonds.{joins};
+ghost use Rattle.sling.specs.Items.{at, atom, reference, ring};
+ghost use Rattle.sling.specs.Faults.{itemFault};
+ghost use Rattle.text.specs.Scanning.{itemOf};
+ghost use Rattle.text.specs.Holding.{viewOf, Held, Ready};
+ghost use Rattle.text.specs.Judging.{hBroken, overIn, overOn, firstFault, pairIn};
+use crate::item::Item;
+use crate::item::Place;
+use crate::state::State;
+use crate::state::h_bit;
+use crate::state::h_bond;
+use crate::state::named;
+use crate::state::wide;
+use table::Table;
+
+// Whether a new bond breaks the H rule at one of its ends, which has so many hydrogen bonds before.
+fn wrong_h(kind: u8, other: u8, code: u8, bonds: u8) -> bool
+    ensures { λ r. ⌜ r ≡ hBroken kind other code bonds ⌝ }
+{
+    if kind != 0 {
+        return false;
+    }
+    if other == 0 {
+        return true;
+    }
+    if 1 < code {
+        return true;
+    }
+    0 < bonds
+}
+
+fn over(atoms: usize, hydrogens: usize, bonds: usize) -> bool
+    ensures { λ r. ⌜ r ≡ overIn atoms hydrogens bonds ⌝ }
+{
+    if Table::MAX_ATOMS < atoms {
+        return true;
+    }
+    if Table::MAX_HYDROGENS < hydrogens {
+        return true;
+    }
+    Table::MAX_BONDS < bonds
+}
+
+fn over_on(hydrogens: usize, bonds: usize) -> bool
+    ensures { λ r. ⌜ r ≡ overOn hydrogens bonds ⌝ }
+{
+    if Table::MAX_HYDROGENS_ON < hydrogens {
+        return true;
+    }
+    Table::MAX_BONDS_ON < bonds
+}
+
+fn runs(one: u16, two: u16, from: Place, to: Place) -> bool
+    ensures { λ r. ⌜ r ≡ (eqb one (from .0) && eqb two (to .0)) ⌝ }
+{
+    if one != from.0 {
+        return false;
+    }
+    two == to.0
+}
+
+// Whether a bond between two places joins p and q, either way round.
+fn is_pair(one: u16, two: u16, p: Place, q: Place) -> bool
+    ensures { λ r. ⌜ r ≡ joins (p .0) (q .0) (record { one = one; two = two; code = 0 }) ⌝ }
+{
+    if runs(one, two, p, q) {
+        return true;
+    }
+    runs(one, two, q, p)
+}
+
+fn wide_place(x: u8) -> u16
+    ensures { λ r. ⌜ r ≡ x ⌝ }
+{
+    x as u16
+}
+
+// Whether p and q have a bond among the first so many.
+fn paired<'a>(
+    one: &'a [u8; State::BONDS],
+    two: &'a [u8; State::BONDS],
+    drawn: usize,
+    p: Place,
+    q: Place,
+) -> bool
+    requires { ⌜ drawn ≤ 208 ⌝ }
+    ensures { λ r. ⌜ r ≡ some (each drawn (λ k. pairIn (now (one .entry)) (now (two .entry)) (p .0) (q .0) k)) ⌝ }
+{
+    let mut i = 0;
+    while i < drawn {
+        if is_pair(wide_place(one[i]), wide_place(two[i]), p, q) {
+            return true;
+        }
+        i += 1;
+    }
+    false
+}
+
+// The first item is an atom without a mark.
+fn first_fault(code: u8, kind: u8) -> u8
+    ensures { λ r. ⌜ r ≡ firstFault code kind ⌝ }
+{
+    if 1 < code {
+        return 2;
+    }
+    if 24 < kind {
+        return 3;
+    }
+    0
+}
+
+fn atom_fault(st: State, code: u8, kind: u8) -> u8
+    requires { ⌜ Ready st ⌝ }
+    ensures { λ r. ⌜ r ≡ itemFault (viewOf st) (atom code kind) ⌝ }
+{
+    if 24 < kind {
+        return 3;
+    }
+    let c = st.cursor.0 as usize;
+    let other = st.kinds[c];
+    if wrong_h(other, kind, code, st.hydrogens[c]) {
+        return 7;
+    }
+    if wrong_h(kind, other, code, 0) {
+        return 7;
+    }
+    let x = wide(h_bit(kind));
+    let h = wide(h_bond(other, kind));
+    if over(st.atoms + 1 - x, st.total + x, st.bonds + 1 - h) {
+        return 4;
+    }
+    if over_on(wide(st.hydrogens[c]) + h, wide(st.degrees[c]) + 1 - h) {
+        return 4;
+    }
+    0
+}
+
+fn ring_fault(st: State, code: u8, to: Place) -> u8
+    requires { ⌜ Ready st ⌝ }
+    ensures { λ r. ⌜ r ≡ itemFault (viewOf st) (ring code (at (to .0))) ⌝ }
+{
+    let p = to.0 as usize;
+    if st.n <= p {
+        return 5;
+    }
+    let c = st.cursor.0 as usize;
+    let from = st.kinds[c];
+    let other = st.kinds[p];
+    if wrong_h(from, other, code, st.hydrogens[c]) {
+        return 7;
+    }
+    if wrong_h(other, from, code, st.hydrogens[p]) {
+        return 7;
+    }
+    if c == p {
+        return 6;
+    }
+    if paired(&st.one, &st.two, st.drawn, st.cursor, to) {
+        return 6;
+    }
+    let h = wide(h_bond(from, other));
+    if over(st.atoms, st.total, st.bonds + 1 - h) {
+        return 4;
+    }
+    if over_on(wide(st.hydrogens[c]) + h, wide(st.degrees[c]) + 1 - h) {
+        return 4;
+    }
+    if over_on(wide(st.hydrogens[p]) + h, wide(st.degrees[p]) + 1 - h) {
+        return 4;
+    }
+    0
+}
+
+fn reference_fault(st: State, to: Place) -> u8
+    requires { ⌜ Ready st ⌝ }
+    ensures { λ r. ⌜ r ≡ itemFault (viewOf st) (reference (at (to .0))) ⌝ }
+{
+    if st.n <= to.0 as usize {
+        return 5;
+    }
+    0
+}
+
+// The refusal that an item deserves, 0 for none.
+pub fn item_fault(st: State, item: Item) -> u8
+    requires { ⌜ Held st ⌝ }
+    ensures { λ r. ⌜ r ≡ itemFault (viewOf st) (itemOf item) ⌝ }
+{
+    let n = st.n;
+    match item {
+        Item::Atom { code, kind } => {
+            if n == 0 {
+                return first_fault(code, kind);
+            }
+            atom_fault(st, code, kind)
+        }
+        Item::Reference(target) => {
+            if n == 0 {
+                return 2;
+            }
+            reference_fault(st, named(st, target))
+        }
+        Item::Ring { code, target } => {
+            if n == 0 {
+                return 2;
+            }
+            ring_fault(st, code, named(st, target))
+        }
+    }
+}
