@@ -7,7 +7,6 @@ use native.Mathlib.Omega.{arith}
 use lib.Dec.{ltb}
 use lib.ListN.{length, getD, take, drop, length-append}
 use lib.Seq.{sets-eq, take-suc, take-length}
-use borrow.Author.Tests.{lt-ltb, le-ltb}
 use Rattle.lists.specs.Upto.{upto, each, sum}
 use Rattle.lists.specs.Tests.{keep}
 use Rattle.lists.proofs.Upto.{each-eq}
@@ -19,7 +18,9 @@ use Rattle.lists.proofs.Flattened.{length-pieces}
 use Rattle.table.specs.Arrays.{Arrays, Tidy, HasRow, rowIn, asMolecule}
 use Rattle.table.proofs.RowLaws.{row-at}
 use Rattle.table.proofs.Views.{near-long, code-slot, neighbours-row, tidy-row}
-use Rattle.card.specs.Writing.{atomPiece, bondPiece, slotPiece, rowBytes, rowLength, Wrote, IsWritten}
+use Rattle.lent.specs.Written.{Written}
+use Rattle.lent.proofs.Outcomes.{too-short, written}
+use Rattle.card.specs.Writing.{atomPiece, bondPiece, slotPiece, rowBytes, rowLength, Wrote}
 use Rattle.card.proofs.Written.{wrote-more, pieces-length}
 use Rattle.card.proofs.Lengths.{row-low, row-length}
 
@@ -99,10 +100,8 @@ module _ (t : Arrays) (T : Tidy t) where
     unfolding field
     card-long = ap length card-is ∙ length-append (field 1 atomsIn) (field 2 bondsIn) ∙ omega (arith, atoms-long, bonds-long b e)
 
-    pub card-short : (out : List ℕ) → length out < 2 * t .n + b + 6 → IsWritten (cardBytes (asMolecule t)) out out (record { refusal = 10; length = 0 })
-    card-short out h =
-        let q : ltb (length out) (length (cardBytes (asMolecule t))) ≡ true = lt-ltb _ _ (subst (λ (k : ℕ). length out < k) (sym card-long) h) in
-        record { refusal = rw q; size = rw q; left = rw q }
+    pub card-short : (out : List ℕ) → length out < 2 * t .n + b + 6 → Written (cardBytes (asMolecule t)) out out (record { refusal = 10; length = 0 })
+    card-short out h = too-short (cardBytes (asMolecule t)) out (subst (λ (k : ℕ). length out < k) (sym card-long) h)
 
     -- the head of a field
     abbrev head : ℕ → ℕ → List ℕ
@@ -121,16 +120,10 @@ module _ (t : Arrays) (T : Tidy t) where
           subst (λ (bs : List ℕ). Wrote out 0 bs o₄ i₄) joined
           (wrote-more out o₃ o₄ 0 i₃ i₄ _ bondsIn (wrote-more out o₂ o₃ 0 i₂ i₃ _ (head 2 b) (wrote-more out o₁ o₂ 0 i₁ i₂ (head 1 (2 * t .n)) atomsIn W₁ W₂) W₃) W₄)
 
-      pub card-written : 2 * t .n + b + 6 ≤ length out → IsWritten (cardBytes (asMolecule t)) out o₄ (record { refusal = 0; length = 2 * t .n + b + 6 })
+      pub card-written : 2 * t .n + b + 6 ≤ length out → Written (cardBytes (asMolecule t)) out o₄ (record { refusal = 0; length = 2 * t .n + b + 6 })
       card-written h =
           let k : length (cardBytes (asMolecule t)) ≤ length out = subst (λ (k : ℕ). k ≤ length out) (sym card-long) h in
-          let q : ltb (length out) (length (cardBytes (asMolecule t))) ≡ false = le-ltb _ _ k in
           let z : 0 + length (cardBytes (asMolecule t)) ≡ length (cardBytes (asMolecule t)) = omega arith in
           let m : 0 + length (cardBytes (asMolecule t)) ≤ length out = omega arith in
-          record {
-            refusal = rw q;
-            size = rw q (sym card-long);
-            left =
-                rw q
-                (all .is ∙ sets-eq (cardBytes (asMolecule t)) out 0 m ∙ ap (λ (k : ℕ). cardBytes (asMolecule t) ++ drop k out) z);
-          }
+          written (cardBytes (asMolecule t)) out _ o₄ (sym card-long) k
+          (all .is ∙ sets-eq (cardBytes (asMolecule t)) out 0 m ∙ ap (λ (k : ℕ). cardBytes (asMolecule t) ++ drop k out) z)

@@ -1,14 +1,13 @@
 -- The bytes of a card, from the table's arrays.
 use mathlib.Core.Bool.{cond}
-use mathlib.Core.List.{List, [], _∷_, _++_, flatten}
+use mathlib.Core.List.{List, [], _∷_, flatten}
 use mathlib.Core.Path.{_≡_}
 use Prim.Native.Nat.{ℕ, _+_, _*_}
 use lib.Dec.{ltb}
-use lib.ListN.{length, getD, drop}
+use lib.ListN.{length, getD}
 use lib.Seq.{sets}
 use Rattle.lists.specs.Upto.{each, sum}
 use Rattle.molecule.specs.Kinds.{numberOf}
-use Rattle.card.specs.declared.Output.{Output}
 
 -- two bytes for an atom
 abbrev pub atomPiece : (kinds hydrogens : List ℕ) → ℕ → List ℕ
@@ -33,9 +32,3 @@ rowLength degrees near a = sum (each (getD degrees a 0) (λ p. cond (ltb a (getD
 pub record Wrote (out : List ℕ) (at : ℕ) (bytes after : List ℕ) (next : ℕ) : Type 0 where
   pub is : after ≡ sets out at bytes
   pub ends : next ≡ at + length bytes
-
--- 10 where the buffer is shorter than the bytes, and then it is as it was; else the bytes stand at its start, and what follows is as it was
-pub record IsWritten (bytes out after : List ℕ) (r : Output) : Type 0 where
-  pub refusal : r .refusal ≡ cond (ltb (length out) (length bytes)) 10 0
-  pub size : r .length ≡ cond (ltb (length out) (length bytes)) 0 (length bytes)
-  pub left : after ≡ cond (ltb (length out) (length bytes)) out (bytes ++ drop (length bytes) out)

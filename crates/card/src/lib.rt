@@ -1,11 +1,12 @@
 // Cards: any bytes to a table or a refusal, and a table to the bytes of its card.
 ghost use mathlib.Core.Path.{_≡_};
 ghost use Prim.Native.Nat.{ℕ, _<_, _≤_};
+ghost use Rattle.lent.specs.Written.{Written};
 ghost use Rattle.molecule.specs.Molecule.{kind};
 ghost use Rattle.molecule.specs.Written.{cardBytes};
 ghost use Rattle.table.specs.View.{viewOf, TidyTable};
 ghost use Rattle.card.specs.Reading.{IsRead};
-ghost use Rattle.card.specs.Writing.{IsWritten};
+use lent::Output;
 use table::Table;
 
 mod atoms;
@@ -17,12 +18,6 @@ mod writing;
 pub struct CardRead {
     pub refusal: u8,
     pub table: Table,
-}
-
-// A refusal with length 0, or 0 with the number of bytes written.
-pub struct Output {
-    pub refusal: u8,
-    pub length: usize,
 }
 
 fn wide(x: u8) -> usize
@@ -71,7 +66,7 @@ pub fn read(card: &[u8]) -> CardRead
 // Writes the card of a table: each bond with its lower atom first, bonds ascending. Its length is known before a byte is written.
 pub fn write(t: Table, out: &mut [u8]) -> Output
     requires { ⌜ TidyTable t × ((a : ℕ) → a < viewOf t .size → kind (viewOf t) a ≤ 24) ⌝ }
-    ensures { λ r. ⌜ IsWritten (cardBytes (viewOf t)) (now (out .entry)) (now (out .exit)) r ⌝ }
+    ensures { λ r. ⌜ Written (cardBytes (viewOf t)) (now (out .entry)) (now (out .exit)) r ⌝ }
 {
     let n = t.n;
     let bonds = writing::bonds_length(n, &t.degrees, &t.near);

@@ -18,8 +18,8 @@ use Rattle.sling.specs.Folded.{heavyPlaces, folded, loneH, ended, readText}
 use Rattle.lists.proofs.All.{all-getD}
 use Rattle.sling.proofs.Tidy.{Reader}
 use Rattle.rules.specs.Answers.{inRoom, atExit, readInto, cardOf}
-use Rattle.card.specs.declared.Output.{Output}
-use Rattle.card.specs.Writing.{IsWritten}
+use Rattle.lent.specs.declared.Output.{Output}
+use Rattle.lent.specs.Written.{Written}
 use Rattle.text.specs.declared.Answer.{Answer}
 use Rattle.text.specs.declared.state.State.{State}
 use Rattle.text.specs.Holding.{viewOf}
@@ -61,7 +61,7 @@ module _ (s lent : List ℕ) where
         pub answer-7 : (r : Answer) → r ≡ no 7 (length s) → loneH S ≡ true → Answered s lent lent r
         answer-7 r q e = stopped-answer s lent 7 (length s) r q (read-is ∙ rw e)
 
-        module _ (two : loneH S ≡ false) (M : Molecule) (E : Renumbered (λ a. a) (folded S) M) (left : List ℕ) (o : Output) (W : IsWritten (cardBytes M) lent left o) where
+        module _ (two : loneH S ≡ false) (M : Molecule) (E : Renumbered (λ a. a) (folded S) M) (left : List ℕ) (o : Output) (W : Written (cardBytes M) lent left o) where
           answer-is : cardOf s (length lent) ≡ inRoom (length lent) (length s) 0 (cardBytes M)
           unfolding cardOf
           answer-is = rw (read-is, two) (ap (inRoom (length lent) (length s) 0) (cardBytes-alike E))

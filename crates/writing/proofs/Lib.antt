@@ -1,5 +1,4 @@
 pub mod Bytes
-pub mod Copied
 pub mod Symbols
 pub mod Served
 pub mod Further

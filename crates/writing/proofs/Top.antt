@@ -17,11 +17,10 @@ use Rattle.table.specs.Arrays.{asMolecule}
 use Rattle.table.specs.View.{arraysOf, viewOf, TidyTable}
 use Rattle.table.proofs.Views.{neighbours-row, code-slot}
 use Rattle.writing.specs.declared.Pen.{Pen}
-use Rattle.writing.specs.declared.Output.{Output}
 use Rattle.writing.specs.Added.{Room, Added}
 use Rattle.writing.specs.Shown.{size, Lettered, Noted}
 use Rattle.writing.specs.Lent.{Columns, Lent, Sheet, Shows, Finishing}
-use Rattle.writing.specs.Named.{Nameable, Named}
+use Rattle.writing.specs.Nameable.{Nameable}
 use Rattle.writing.proofs.Bytes.{symbol-some}
 use Rattle.writing.proofs.Further.{further-finish}
 use Rattle.writing.proofs.Letters.{letters-size}
@@ -111,25 +110,6 @@ module _ (t : Table) (N : Nameable t) where
     pub name-added : (b : List ℕ) → Added b (s .buffer) 0 (s .pen .length) (nameBytes (viewOf t))
     unfolding asMolecule nameBytes written
     name-added b = record { end = omega (arith, end-size); is = S .text .text; long = S .text .long }
-
--- the answers: too little room, and the name copied
-module _ (name b buffer : List ℕ) (n : ℕ) (A : Added b buffer 0 n name) (out : List ℕ) (r : Output) where
-  pub too-short : length out < n → r .refusal ≡ 10 → r .length ≡ 0 → Named name out out r
-  too-short h e f =
-      let k : length out < length name = omega (arith, A .end) in
-      let c = lt-ltb _ _ k in
-      record { refusal = e ∙ rw c; written = f ∙ rw c; lent = rw c }
-
-  pub name-copied : (after : List ℕ) → n ≤ length out → r .refusal ≡ 0 → r .length ≡ n → after ≡ take n buffer ++ drop n out → Named name out after r
-  name-copied after h e f g =
-      let z : n ≡ length name = omega (arith, A .end) in
-      let k : length name ≤ length out = omega arith in
-      let c = le-ltb _ _ k in
-      record {
-        refusal = e ∙ rw c;
-        written = f ∙ z ∙ rw c;
-        lent = g ∙ rw c (ap (λ (l : List ℕ). l ++ drop n out) (A .is) ∙ ap (λ (m : ℕ). name ++ drop m out) z);
-      }
 
 -- what a sound molecule's table, in rank order, brings
 pub sound-nameable : (t : Table) → TidyTable t → Sound (viewOf t) → length (nameBytes (viewOf t)) ≤ 2048 → Nameable t

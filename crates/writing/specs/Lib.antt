@@ -2,4 +2,4 @@ pub mod Added
 pub mod Shown
 pub mod Strokes
 pub mod Lent
-pub mod Named
+pub mod Nameable

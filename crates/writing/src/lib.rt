@@ -1,14 +1,16 @@
 // The name of a molecule whose atoms are in rank order, written into a lent buffer.
+use lent::Output;
 use table::AtomNo;
 use table::Table;
 ghost use mathlib.Core.List.{_++_};
 ghost use mathlib.Core.Path.{_≡_};
 ghost use Prim.Native.Nat.{_≤_};
 ghost use lib.ListN.{length, take, drop};
+ghost use Rattle.lent.specs.Written.{Written};
 ghost use Rattle.sling.specs.Printed.{nameBytes};
 ghost use Rattle.table.specs.View.{viewOf};
 ghost use Rattle.writing.specs.Added.{Added};
-ghost use Rattle.writing.specs.Named.{Nameable, Named};
+ghost use Rattle.writing.specs.Nameable.{Nameable};
 
 mod printed;
 mod strokes;
@@ -45,27 +47,14 @@ struct Bond {
     pub code: u8,
 }
 
-// What became of a request: its refusal's number, and how many bytes were written.
-pub struct Output {
-    pub refusal: u8,
-    pub length: usize,
-}
-
 // The name of a table whose atoms stand in rank order. The whole name is known, and its length, before a lent byte is touched.
 pub fn write(t: Table, out: &mut [u8]) -> Output
     requires { ⌜ Nameable t ⌝ }
-    ensures { λ r. ⌜ Named (nameBytes (viewOf t)) (now (out .entry)) (now (out .exit)) r ⌝ }
+    ensures { λ r. ⌜ Written (nameBytes (viewOf t)) (now (out .entry)) (now (out .exit)) r ⌝ }
 {
     let mut buffer = [0u8; Pen::ROOM];
     let length = put_name(t, &mut buffer);
-    if out.len() < length {
-        return Output {
-            refusal: 10,
-            length: 0,
-        };
-    }
-    copy(&buffer, length, out);
-    Output { refusal: 0, length }
+    lent::write(&buffer[..length], out)
 }
 
 // "Start at rank 1. To write an atom: symbol", and what follows it.
@@ -98,16 +87,4 @@ fn put_name(t: Table, buffer: &mut [u8; Pen::ROOM]) -> usize
         pen,
     );
     moved.length
-}
-
-// The first bytes of a buffer, copied to the start of another.
-fn copy(buffer: &[u8; Pen::ROOM], count: usize, out: &mut [u8])
-    requires { ⌜ (length (now buffer) ≡ 2048) × (count ≤ 2048) × (count ≤ length (now out)) ⌝ }
-    ensures { λ _. ⌜ now (out .exit) ≡ take count (now (buffer .entry)) ++ drop count (now (out .entry)) ⌝ }
-{
-    let mut i: usize = 0;
-    while i < count {
-        out[i] = buffer[i];
-        i += 1;
-    }
 }
