@@ -101,13 +101,11 @@ atomFault m k kc hc dc a t b =
 abbrev pub ringFault : (m n p c kc kp hc hp dc dp a t b : ℕ) (pair : Bool) → ℕ
 ringFault m n p c kc kp hc hp dc dp a t b pair =
     cond (leb n p) 5
-    (cond (hBroken kc kp m hc) 7
-    (cond (hBroken kp kc m hp) 7
-    (cond (eqb c p) 6
-    (cond pair 6
+    (cond (hBroken kc kp m hc || hBroken kp kc m hp) 7
+    (cond (eqb c p || pair) 6
     (cond (overIn a t (b + 1 - bit (hBond kc kp))) 4
     (cond (overOn (hc + bit (hBond kc kp)) (dc + 1 - bit (hBond kc kp))) 4
-    (cond (overOn (hp + bit (hBond kc kp)) (dp + 1 - bit (hBond kc kp))) 4 0)))))))
+    (cond (overOn (hp + bit (hBond kc kp)) (dp + 1 - bit (hBond kc kp))) 4 0)))))
 
 -- what is added and taken away again
 less : (b : Bool) (x : ℕ) → x + bit (not b) ≡ x + 1 - bit b
@@ -241,8 +239,6 @@ module _ (s : State) (r : Reader s) (more : 0 < length (s .kinds)) where
         judged =
             rw (seven, four, ne-eqb (length (s .kinds)) 0 (λ e. omega arith))
             (rw (
-              either (hBroken j l m (hydrogensOn s c)),
-              either (eqb c p),
               either (overIn (heavyAtoms s) (hydrogenAtoms s) (heavyBonds s + 1 - bit h) || overOn (hydrogensOn s c + bit h) (bondsOn s c + 1 - bit h)),
               either (overIn (heavyAtoms s) (hydrogenAtoms s) (heavyBonds s + 1 - bit h)),
             ))

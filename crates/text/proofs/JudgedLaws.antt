@@ -2,11 +2,11 @@
 use Prim.Native.Nat.{ℕ, _+_, _-_, _≤_, _<_}
 use mathlib.Core.Path.{_≡_, refl, sym, ap, _∙_}
 use mathlib.Core.List.{map}
-use mathlib.Core.Bool.{Bool, true, false, cond}
+use mathlib.Core.Bool.{Bool, true, false, cond, _||_}
 use native.Mathlib.Omega.{arith}
 use lib.ListN.{length, getD}
 use lib.Dec.{eqb, ltb, leb}
-use borrow.Author.Tests.{eq-eqb, ne-eqb, lt-ltb, le-ltb, le-leb, lt-leb}
+use borrow.Author.Tests.{ne-eqb, lt-ltb, le-ltb, le-leb, lt-leb}
 use Rattle.lists.specs.Upto.{each}
 use Rattle.lists.specs.Tests.{some}
 use Rattle.lists.proofs.Upto.{map-each}
@@ -32,6 +32,16 @@ ready st h n =
       total = omega (arith, m .hydrogens, t .hydrogenAtoms);
       bonds = omega (arith, m .bonds, t .heavyBonds);
     }
+
+-- two refusals that are none
+neither : (x y : Bool) → _≡_ {A = ℕ} (cond x 7 (cond y 6 0)) 0 → (x ≡ false) × (y ≡ false)
+neither true y e = absurd (omega arith)
+neither false true e = absurd (omega arith)
+neither false false e = (refl, refl)
+
+seven-first : (x y : Bool) (a b f : ℕ) → a ≡ cond x 7 0 → b ≡ cond y 6 0 → f ≡ cond (eqb a 0) b a → f ≡ cond x 7 (cond y 6 0)
+seven-first true y a b f ea eb ef = ef ∙ rw ea
+seven-first false y a b f ea eb ef = ef ∙ rw (ea, eb)
 
 module _ (st : State) (R : Ready st) where
   abbrev c : ℕ
@@ -98,8 +108,14 @@ module _ (st : State) (R : Ready st) where
     abbrev dp : ℕ
     dp = getD (st .degrees) p 0
 
+    abbrev seven : Bool
+    seven = hBroken kc kp m hc || hBroken kp kc m hp
+
     abbrev pair : Bool
     pair = some (each (st .drawn) (pairIn (st .one) (st .two) (st .cursor .0) p))
+
+    abbrev six : Bool
+    six = eqb (st .cursor .0) p || pair
 
     pair-is : pair ≡ some (map (joins (st .cursor .0) p) (viewOf st .bonds))
     pair-is = ap some (sym (map-each (joins (st .cursor .0) p) (st .drawn) (bondAt st)))
@@ -123,41 +139,46 @@ module _ (st : State) (R : Ready st) where
           (sym (view-places st t)) (sym (view-kind st c (R .from))) (sym (view-kind st p there)) (t .hydrogensOn c low) (t .hydrogensOn p fit) (t .bondsOn c low) (t .bondsOn p fit)
           (t .heavyAtoms) (t .hydrogenAtoms) (t .heavyBonds) pair-is
 
-      pub ring-7 : hBroken kc kp m hc ≡ true → 7 ≡ itemFault (viewOf st) (ring m (at p))
-      ring-7 e = sym (rw (lt-leb (st .n) p there, e)) ∙ judged-ring
+      -- 7 is judged before 6
+      module _ (a b f : ℕ) (ea : a ≡ cond seven 7 0) (eb : b ≡ cond six 6 0) (ef : f ≡ cond (eqb a 0) b a) where
+        fault-is : f ≡ cond seven 7 (cond six 6 0)
+        fault-is = seven-first seven six a b f ea eb ef
 
-      module _ (e₁ : hBroken kc kp m hc ≡ false) where
-        pub ring-7′ : hBroken kp kc m hp ≡ true → 7 ≡ itemFault (viewOf st) (ring m (at p))
-        ring-7′ e = sym (rw (lt-leb (st .n) p there, e₁, e)) ∙ judged-ring
+        pub ring-first : (f ≡ 0 → ⊥) → f ≡ itemFault (viewOf st) (ring m (at p))
+        ring-first some-fault = pick seven six refl refl
+          where
+            pick : (x y : Bool) → seven ≡ x → six ≡ y → f ≡ itemFault (viewOf st) (ring m (at p))
+            pick true y ex ey = let e : f ≡ 7 = fault-is ∙ rw ex in e ∙ sym (rw (lt-leb (st .n) p there, ex)) ∙ judged-ring
+            pick false true ex ey = let e : f ≡ 6 = fault-is ∙ rw (ex, ey) in e ∙ sym (rw (lt-leb (st .n) p there, ex, ey)) ∙ judged-ring
+            pick false false ex ey = absurd (some-fault (fault-is ∙ rw (ex, ey)))
 
-        module _ (e₂ : hBroken kp kc m hp ≡ false) where
-          pub ring-6 : st .cursor .0 ≡ p → 6 ≡ itemFault (viewOf st) (ring m (at p))
-          ring-6 e = sym (rw (lt-leb (st .n) p there, e₁, e₂, eq-eqb _ _ e)) ∙ judged-ring
+        module _ (none : f ≡ 0) where
+          e₁ : seven ≡ false
+          e₁ = neither seven six (sym fault-is ∙ none) .0
 
-          module _ (e₃ : st .cursor .0 ≡ p → ⊥) where
-            pub ring-6′ : pair ≡ true → 6 ≡ itemFault (viewOf st) (ring m (at p))
-            ring-6′ e = sym (rw (lt-leb (st .n) p there, e₁, e₂, ne-eqb _ _ e₃, e)) ∙ judged-ring
+          e₂ : six ≡ false
+          e₂ = neither seven six (sym fault-is ∙ none) .1
 
-            module _ (e₄ : pair ≡ false) (h : ℕ) (eh : h ≡ bit (hBond kc kp)) where
-              in-all : (b : Bool) → overIn (st .atoms) (st .total) (st .bonds + 1 - h) ≡ b → overIn (st .atoms) (st .total) (st .bonds + 1 - bit (hBond kc kp)) ≡ b
-              in-all b e = rw (← eh) e
+          module _ (h : ℕ) (eh : h ≡ bit (hBond kc kp)) where
+            in-all : (b : Bool) → overIn (st .atoms) (st .total) (st .bonds + 1 - h) ≡ b → overIn (st .atoms) (st .total) (st .bonds + 1 - bit (hBond kc kp)) ≡ b
+            in-all b e = rw (← eh) e
 
-              pub ring-4 : overIn (st .atoms) (st .total) (st .bonds + 1 - h) ≡ true → 4 ≡ itemFault (viewOf st) (ring m (at p))
-              ring-4 e = sym (rw (lt-leb (st .n) p there, e₁, e₂, ne-eqb _ _ e₃, e₄, in-all true e)) ∙ judged-ring
+            pub ring-4 : overIn (st .atoms) (st .total) (st .bonds + 1 - h) ≡ true → 4 ≡ itemFault (viewOf st) (ring m (at p))
+            ring-4 e = sym (rw (lt-leb (st .n) p there, e₁, e₂, in-all true e)) ∙ judged-ring
 
-              module _ (e₅ : overIn (st .atoms) (st .total) (st .bonds + 1 - h) ≡ false) (u w : ℕ) (eu : u ≡ hc) (ew : w ≡ dc) where
-                from-on : (b : Bool) → overOn (u + h) (w + 1 - h) ≡ b → overOn (hc + bit (hBond kc kp)) (dc + 1 - bit (hBond kc kp)) ≡ b
-                from-on b e = rw (← eu, ← ew, ← eh) e
+            module _ (e₃ : overIn (st .atoms) (st .total) (st .bonds + 1 - h) ≡ false) (u w : ℕ) (eu : u ≡ hc) (ew : w ≡ dc) where
+              from-on : (b : Bool) → overOn (u + h) (w + 1 - h) ≡ b → overOn (hc + bit (hBond kc kp)) (dc + 1 - bit (hBond kc kp)) ≡ b
+              from-on b e = rw (← eu, ← ew, ← eh) e
 
-                pub ring-4′ : overOn (u + h) (w + 1 - h) ≡ true → 4 ≡ itemFault (viewOf st) (ring m (at p))
-                ring-4′ e = sym (rw (lt-leb (st .n) p there, e₁, e₂, ne-eqb _ _ e₃, e₄, in-all false e₅, from-on true e)) ∙ judged-ring
+              pub ring-4′ : overOn (u + h) (w + 1 - h) ≡ true → 4 ≡ itemFault (viewOf st) (ring m (at p))
+              ring-4′ e = sym (rw (lt-leb (st .n) p there, e₁, e₂, in-all false e₃, from-on true e)) ∙ judged-ring
 
-                module _ (e₆ : overOn (u + h) (w + 1 - h) ≡ false) (y z : ℕ) (ey : y ≡ hp) (ez : z ≡ dp) where
-                  to-on : (b : Bool) → overOn (y + h) (z + 1 - h) ≡ b → overOn (hp + bit (hBond kc kp)) (dp + 1 - bit (hBond kc kp)) ≡ b
-                  to-on b e = rw (← ey, ← ez, ← eh) e
+              module _ (e₄ : overOn (u + h) (w + 1 - h) ≡ false) (y z : ℕ) (ey : y ≡ hp) (ez : z ≡ dp) where
+                to-on : (b : Bool) → overOn (y + h) (z + 1 - h) ≡ b → overOn (hp + bit (hBond kc kp)) (dp + 1 - bit (hBond kc kp)) ≡ b
+                to-on b e = rw (← ey, ← ez, ← eh) e
 
-                  pub ring-4″ : overOn (y + h) (z + 1 - h) ≡ true → 4 ≡ itemFault (viewOf st) (ring m (at p))
-                  ring-4″ e = sym (rw (lt-leb (st .n) p there, e₁, e₂, ne-eqb _ _ e₃, e₄, in-all false e₅, from-on false e₆, to-on true e)) ∙ judged-ring
+                pub ring-4″ : overOn (y + h) (z + 1 - h) ≡ true → 4 ≡ itemFault (viewOf st) (ring m (at p))
+                ring-4″ e = sym (rw (lt-leb (st .n) p there, e₁, e₂, in-all false e₃, from-on false e₄, to-on true e)) ∙ judged-ring
 
-                  pub ring-0 : overOn (y + h) (z + 1 - h) ≡ false → 0 ≡ itemFault (viewOf st) (ring m (at p))
-                  ring-0 e = sym (rw (lt-leb (st .n) p there, e₁, e₂, ne-eqb _ _ e₃, e₄, in-all false e₅, from-on false e₆, to-on false e)) ∙ judged-ring
+                pub ring-0 : overOn (y + h) (z + 1 - h) ≡ false → 0 ≡ itemFault (viewOf st) (ring m (at p))
+                ring-0 e = sym (rw (lt-leb (st .n) p there, e₁, e₂, in-all false e₃, from-on false e₄, to-on false e)) ∙ judged-ring

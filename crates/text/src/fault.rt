@@ -1,6 +1,6 @@
 // Judging an item.
 ghost use mathlib.Core.Path.{_≡_};
-ghost use mathlib.Core.Bool.{_&&_};
+ghost use mathlib.Core.Bool.{cond, _&&_, _||_};
 ghost use Prim.Native.Nat.{_≤_, _<_};
 ghost use lib.Dec.{eqb};
 ghost use Rattle.lists.specs.Upto.{each};
@@ -103,6 +103,49 @@ fn paired<'a>(
     false
 }
 
+// 7 where a new bond breaks the H rule at one of its ends, which have so many hydrogen bonds before.
+fn h_fault(kind: u8, other: u8, code: u8, bonds: u8, others: u8) -> u8
+    ensures { λ r. ⌜ r ≡ cond (hBroken kind other code bonds || hBroken other kind code others) 7 0 ⌝ }
+{
+    if wrong_h(kind, other, code, bonds) {
+        return 7;
+    }
+    if wrong_h(other, kind, code, others) {
+        return 7;
+    }
+    0
+}
+
+// 6 for a bond to itself and for a second one on the pair.
+fn pair_fault<'a>(
+    one: &'a [u8; State::BONDS],
+    two: &'a [u8; State::BONDS],
+    drawn: usize,
+    p: Place,
+    q: Place,
+) -> u8
+    requires { ⌜ drawn ≤ 208 ⌝ }
+    ensures { λ r. ⌜ r ≡ cond (eqb (p .0) (q .0) || some (each drawn (λ k. pairIn (now (one .entry)) (now (two .entry)) (p .0) (q .0) k))) 6 0 ⌝ }
+{
+    if p.0 == q.0 {
+        return 6;
+    }
+    if paired(one, two, drawn, p, q) {
+        return 6;
+    }
+    0
+}
+
+// Of two refusals, 0 for none, the one that is judged first.
+fn first_of(one: u8, two: u8) -> u8
+    ensures { λ r. ⌜ r ≡ cond (eqb one 0) two one ⌝ }
+{
+    if one == 0 {
+        return two;
+    }
+    one
+}
+
 // The first item is an atom without a mark.
 fn first_fault(code: u8, kind: u8) -> u8
     ensures { λ r. ⌜ r ≡ firstFault code kind ⌝ }
@@ -153,17 +196,11 @@ fn ring_fault(st: State, code: u8, to: Place) -> u8
     let c = st.cursor.0 as usize;
     let from = st.kinds[c];
     let other = st.kinds[p];
-    if wrong_h(from, other, code, st.hydrogens[c]) {
-        return 7;
-    }
-    if wrong_h(other, from, code, st.hydrogens[p]) {
-        return 7;
-    }
-    if c == p {
-        return 6;
-    }
-    if paired(&st.one, &st.two, st.drawn, st.cursor, to) {
-        return 6;
+    let seven = h_fault(from, other, code, st.hydrogens[c], st.hydrogens[p]);
+    let six = pair_fault(&st.one, &st.two, st.drawn, st.cursor, to);
+    let fault = first_of(seven, six);
+    if fault != 0 {
+        return fault;
     }
     let h = wide(h_bond(from, other));
     if over(st.atoms, st.total, st.bonds + 1 - h) {

@@ -17,6 +17,16 @@ pub struct Reading {
     pub state: State,
 }
 
+fn refused(refusal: u8, place: usize, state: State) -> Reading
+    ensures { λ r. ⌜ r ≡ record { refusal = refusal; place = place; state = state } ⌝ }
+{
+    Reading {
+        refusal,
+        place,
+        state,
+    }
+}
+
 pub fn read(text: &[u8]) -> Reading
     ensures { λ r. ⌜ Reads (now (text .entry)) r ⌝ }
 {
@@ -24,19 +34,11 @@ pub fn read(text: &[u8]) -> Reading
     let mut at: usize = 0;
     while at < text.len() {
         let Scanned::Got(item, next) = scan(text, at) else {
-            return Reading {
-                refusal: 2,
-                place: at,
-                state: st,
-            };
+            return refused(2, at, st);
         };
         let fault = item_fault(st, item);
         if fault != 0 {
-            return Reading {
-                refusal: fault,
-                place: at,
-                state: st,
-            };
+            return refused(fault, at, st);
         }
         st = after(st, item);
         at = next;

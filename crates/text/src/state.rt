@@ -83,10 +83,10 @@ pub fn h_bit(kind: u8) -> u8
 }
 
 // 1 for a bond to an H.
-pub fn h_bond(kind: u8, other: u8) -> u8
-    ensures { λ r. ⌜ Bit (hBond kind other) r ⌝ }
+pub fn h_bond(one: u8, other: u8) -> u8
+    ensures { λ r. ⌜ Bit (hBond one other) r ⌝ }
 {
-    if kind == 0 {
+    if one == 0 {
         return 1;
     }
     h_bit(other)
@@ -137,12 +137,12 @@ pub fn grown(st: State, kind: u8) -> State
 }
 
 // The cursor moves, with no bond.
-pub fn moved(st: State, to: Place) -> State
-    requires { ⌜ Tallied st × (to .0 ≤ st .n) ⌝ }
-    ensures { λ r. ⌜ (viewOf r ≡ movedTo (viewOf st) (to .0)) × Tallied r ⌝ }
+pub fn moved(st: State, place: Place) -> State
+    requires { ⌜ Tallied st × (place .0 ≤ st .n) ⌝ }
+    ensures { λ r. ⌜ (viewOf r ≡ movedTo (viewOf st) (place .0)) × Tallied r ⌝ }
 {
     let mut next = st;
-    next.cursor = to;
+    next.cursor = place;
     next
 }
 

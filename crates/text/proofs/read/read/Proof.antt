@@ -7,6 +7,7 @@ use Rattle.sling.specs.Scanned.{tokens}
 use Rattle.sling.specs.Faults.{finished, judged, run}
 use Rattle.text.specs.Scanning.{scannedOf, Sane}
 use Rattle.text.specs.Holding.{viewOf, Held}
+use Rattle.text.specs.Outcomes.{Reads}
 use Rattle.text.proofs.ReadLaws.{run-broken, run-fault, run-next, run-end}
 use borrow.Author.Needs.{needs}
 use Rattle.text.proofs.read.read.Statement.{statement}
@@ -15,6 +16,7 @@ use Rattle.text.proofs.read.read.Reads as reads
 use Rattle.text.proofs.read.read.Lts as lts
 use Rattle.text.proofs.after.after.Reads as after-reads
 use Rattle.text.proofs.fault.item_fault.Reads as item-fault-reads
+use Rattle.text.proofs.read.refused.Reads as refused-reads
 use Rattle.text.proofs.scan.scan.Reads as scan-reads
 use Rattle.text.proofs.state.State.empty.Reads as empty-reads
 
@@ -44,29 +46,39 @@ enum-known-item c = search needs
 enum-told : tie.Need-enum-told Inv-loop μ-loop
 enum-told c = search needs
 
--- src/read.rt:27:13
+-- src/read.rt:37:20
+refused-requires : tie.Need-refused-requires Inv-loop μ-loop
+refused-requires c κs = search needs
+
+-- src/read.rt:37:13
 returns : tie.Need-returns Inv-loop μ-loop
 returns c =
-    let L = c .before .before .before .before .loop in
-    record {
-      is = run-broken _ (L .at) (c .before .before .before .loop-test .taken) (viewOf (L .st)) (sym (c .before .before .scan .ensures .is) ∙ ap (scannedOf (L .at)) (c .enum-told .given .1)) ∙ L .inv .1;
+    let L = c .before .before .before .before .before .loop in
+    subst (Reads _) (sym (c .refused .ensures))
+    (record {
+      is = run-broken _ (L .at) (c .before .before .before .before .loop-test .taken) (viewOf (L .st)) (sym (c .before .before .before .scan .ensures .is) ∙ ap (scannedOf (L .at)) (c .before .enum-told .given .1)) ∙ L .inv .1;
       held = L .inv .0;
-    }
+    })
 
 -- src/read.rt:33:13
 item-fault-requires : tie.Need-item-fault-requires Inv-loop μ-loop
 item-fault-requires c κs = c .before .before .before .before .before .loop .inv .0
 
--- src/read.rt:35:13
+-- src/read.rt:41:20
+refused-requires-2 : tie.Need-refused-requires-2 Inv-loop μ-loop
+refused-requires-2 c κs = search needs
+
+-- src/read.rt:41:13
 returns-2 : tie.Need-returns-2 Inv-loop μ-loop
 returns-2 c =
-    let L = c .before .before .before .before .before .before .before .loop in
-    let g = subst (Sane (L .at)) (c .before .before .before .item .given .1) (c .before .before .before .before .before .scan .ensures .sane) in
-    record {
-      is = run-fault _ (L .at) (c .before .before .before .before .before .before .loop-test .taken) _ _ (g .0) (sym (c .before .before .before .before .before .scan .ensures .is) ∙ ap (scannedOf (L .at)) (c .before .before .before .item .given .1))
-          (viewOf (L .st)) (viewOf (L .st)) _ (c .before .item-fault .ensures) (c .if1 .taken) ∙ L .inv .1;
+    let L = c .before .before .before .before .before .before .before .before .loop in
+    let g = subst (Sane (L .at)) (c .before .before .before .before .item .given .1) (c .before .before .before .before .before .before .scan .ensures .sane) in
+    subst (Reads _) (sym (c .refused2 .ensures))
+    (record {
+      is = run-fault _ (L .at) (c .before .before .before .before .before .before .before .loop-test .taken) _ _ (g .0) (sym (c .before .before .before .before .before .before .scan .ensures .is) ∙ ap (scannedOf (L .at)) (c .before .before .before .before .item .given .1))
+          (viewOf (L .st)) (viewOf (L .st)) _ (c .before .before .item-fault .ensures) (c .before .if1 .taken) ∙ L .inv .1;
       held = L .inv .0;
-    }
+    })
 
 -- src/read.rt:41:9
 after-requires : tie.Need-after-requires Inv-loop μ-loop
@@ -113,8 +125,10 @@ read-spec =
     scan-requires
     enum-known-item
     enum-told
+    refused-requires
     returns
     item-fault-requires
+    refused-requires-2
     returns-2
     after-requires
     loop-less
