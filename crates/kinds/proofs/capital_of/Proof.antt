@@ -1,3 +1,4 @@
+-- The array's entry at a kind is the first letter of its symbol, by the test computed over all entries.
 use mathlib.Core.Path.{_∙_, ap}
 use Prim.Native.Nat.{ℕ}
 use lib.ListN.{getD}

@@ -1,3 +1,4 @@
+-- Outside A to Z no symbol begins with the byte; inside, the array's entry is the rules' kind.
 use mathlib.Core.List.{[]}
 use mathlib.Core.Path.{sym, _∙_, ap}
 use Prim.Native.Nat.{ℕ}

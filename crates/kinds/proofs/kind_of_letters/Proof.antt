@@ -1,3 +1,4 @@
+-- No kind before k has these two letters, so the first that has them is the rules' kind.
 use mathlib.Core.Logic.{⊎-elim}
 use borrow.Author.Count.{below-more}
 use mathlib.Core.Path.{_≡_, sym}

@@ -1,3 +1,4 @@
+-- Above 83 no kind has the number; below, the array's entry is the rules' kind.
 use mathlib.Core.Path.{sym, _∙_, ap}
 use Prim.Native.Nat.{ℕ}
 use native.Mathlib.Omega.{arith}

@@ -1,3 +1,4 @@
+-- The array's entry at a kind is the second letter of its symbol, or 0, by the test computed over all entries.
 use mathlib.Core.Path.{_∙_, ap}
 use Prim.Native.Nat.{ℕ}
 use lib.ListN.{getD}
