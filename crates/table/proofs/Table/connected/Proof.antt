@@ -1,3 +1,4 @@
+-- The queue holds the atoms seen and all before the head have their neighbours in it: at its end it is what is reached from atom 0.
 use mathlib.Core.Path.{sym, subst}
 use Prim.Native.Nat.{_-_, _+_, _≤_}
 use native.Mathlib.Omega.{arith}

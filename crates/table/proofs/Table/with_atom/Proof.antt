@@ -1,3 +1,4 @@
+-- The slots of the new atom are past those of the others, which keep theirs.
 use Rattle.table.specs.View.{arraysOf}
 use Rattle.table.proofs.Growing.{grown-tidy, grown}
 use borrow.Author.Needs.{needs}

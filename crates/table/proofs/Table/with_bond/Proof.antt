@@ -1,3 +1,4 @@
+-- One half makes the second possible, and both together are the bond.
 use Rattle.table.specs.View.{viewOf}
 use Rattle.table.proofs.Joins.{first-half, second-half, both-halves}
 use Rattle.table.proofs.Table.with_bond.Statement.{statement}

@@ -1,3 +1,4 @@
+-- The neighbour and its code are put in at the same place of two rows, so that the row stays ascending and one longer.
 use mathlib.Core.Path.{_≡_}
 use Prim.Native.Nat.{_<_, _≤_}
 use native.Mathlib.Omega.{arith}

@@ -1,3 +1,4 @@
+-- An atom not yet seen leaves room in the queue, since no more are in it than are seen.
 use Prim.Native.Nat.{_<_}
 use native.Mathlib.Omega.{arith}
 use borrow.Author.Tests.{eq-eqb, ne-eqb}

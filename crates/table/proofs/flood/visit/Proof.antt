@@ -1,3 +1,4 @@
+-- What is still to be seen of the row, seen from here on, comes to what the whole row comes to.
 use mathlib.Core.Path.{refl, sym, _∙_, ap, subst, _≡_}
 use Prim.Native.Nat.{_+_, _<_, _-_, _≤_}
 use lib.ListN.{length, getD, drop-of-length-le, drop}
