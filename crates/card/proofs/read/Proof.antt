@@ -1,3 +1,4 @@
+-- Each return is the first refusal in the order of document 01, given that none before it was due.
 use mathlib.Core.Bool.{true}
 use mathlib.Core.Path.{_≡_, sym, _∙_}
 use borrow.Author.Tests.{not-true, not-false}

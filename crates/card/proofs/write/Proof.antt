@@ -1,3 +1,4 @@
+-- The four parts fit, since the length was compared first, and one after the other they are the rules' card.
 use mathlib.Core.Path.{_∙_}
 use native.Mathlib.Omega.{arith}
 use Rattle.table.specs.Arrays.{asMolecule}

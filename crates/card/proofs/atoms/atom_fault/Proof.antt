@@ -1,3 +1,4 @@
+-- Each return is the test that it comes after, in the order of the rules.
 use Prim.Native.Nat.{_<_, _≤_}
 use native.Mathlib.Omega.{arith}
 use borrow.Author.Tests.{lt-ltb, le-ltb, le-leb, lt-leb}

@@ -1,3 +1,4 @@
+-- The atoms before this one are in the table, with their total, and the faults still to come are those of the whole.
 use mathlib.Core.Path.{refl, sym, _∙_}
 use Prim.Native.Nat.{_+_, _*_, _-_, _<_}
 use native.Mathlib.Omega.{arith}

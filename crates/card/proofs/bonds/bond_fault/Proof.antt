@@ -1,3 +1,4 @@
+-- Each return is the test that it comes after, in the order of the rules.
 use mathlib.Core.Bool.{or-true}
 use borrow.Author.Tests.{eq-eqb, ne-eqb, lt-ltb, le-ltb, le-leb, lt-leb}
 use Rattle.card.specs.Tests.{bondTested}

@@ -1,3 +1,4 @@
+-- The bonds before this one are in the table, and the faults still to come are those of the whole.
 use mathlib.Core.Path.{sym, _∙_}
 use Prim.Native.Nat.{_+_, _*_, _-_, _<_}
 use native.Mathlib.Omega.{arith}

@@ -1,3 +1,4 @@
+-- Each return is the test that it comes after.
 use borrow.Author.Tests.{eq-eqb, ne-eqb, lt-ltb, le-ltb}
 use Rattle.card.proofs.layout.counts_fault.Statement.{statement}
 use Rattle.card.proofs.layout.counts_fault.Tie as tie

@@ -1,3 +1,4 @@
+-- Each test that fails breaks the rules' layout, and all that pass make it sound.
 use mathlib.Core.Path.{_≡_, _∙_, ap}
 use Prim.Native.Nat.{ℕ, _+_, _%_}
 use native.Mathlib.Omega.{arith}

@@ -1,3 +1,4 @@
+-- Two bytes below 256 make a number below 65,536, so that nothing is lost.
 use Prim.Native.Nat.{_+_}
 use native.Mathlib.Numerals.{add-one}
 use native.Mathlib.Omega.{arith}

@@ -1,3 +1,4 @@
+-- The bytes counted so far are the sum over the rows before this one, at most 18 each.
 use mathlib.Core.Path.{sym, subst, _≡_, _∙_, ap}
 use Rattle.table.specs.Arrays.{HasRow}
 use Prim.Native.Nat.{ℕ, _*_, _-_, _≤_}

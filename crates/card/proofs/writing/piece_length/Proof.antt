@@ -1,3 +1,4 @@
+-- The test is the one of the definition.
 use borrow.Author.Tests.{lt-ltb, le-ltb}
 use Rattle.card.proofs.writing.piece_length.Statement.{statement}
 use Rattle.card.proofs.writing.piece_length.Tie as tie

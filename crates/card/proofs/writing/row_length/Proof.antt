@@ -1,3 +1,4 @@
+-- The bytes counted so far are the sum over the slots before this one, at most 3 each.
 use mathlib.Core.Bool.{cond}
 use mathlib.Core.Path.{_≡_, _∙_, ap}
 use Prim.Native.Nat.{ℕ, _+_, _*_, _-_, _≤_}

@@ -1,3 +1,4 @@
+-- The pieces of the atoms before this one are written, and two stores write the next.
 use lib.ListN.{length-set, length}
 use Rattle.card.proofs.Written.{atoms-start, atoms-next}
 use mathlib.Core.List.{flatten}

@@ -1,3 +1,4 @@
+-- Nothing is written from the higher atom, and from the lower one three stores write the piece.
 use Prim.Native.Nat.{_+_, _≤_}
 use native.Mathlib.Omega.{arith}
 use lib.ListN.{length, length-set}

@@ -1,3 +1,4 @@
+-- The rows of the atoms before this one are written, and there is room for the rest.
 use mathlib.Core.List.{flatten}
 use mathlib.Core.Path.{_≡_, refl, sym, _∙_, ap, subst}
 use Prim.Native.Nat.{ℕ, _-_, _≤_}

@@ -1,3 +1,4 @@
+-- Three stores one after the other leave the tag and the two bytes of the length.
 use native.Mathlib.Omega.{arith}
 use lib.ListN.{length-set}
 use Rattle.card.proofs.Written.{wrote-head}

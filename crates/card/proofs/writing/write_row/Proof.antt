@@ -1,3 +1,4 @@
+-- The pieces of the slots before this one are written, and there is room for the rest of the row.
 use Rattle.card.proofs.Written.{wrote-long, wrote-start, wrote-next, pieces-room}
 use mathlib.Core.List.{flatten}
 use mathlib.Core.Path.{_≡_, refl, _∙_, subst}
