@@ -1,10 +1,10 @@
 -- The whole answer: one law for each of the code's.
 use Prim.Native.Nat.{ℕ, zero, suc, _≤_, _<_}
 use mathlib.Core.Path.{_≡_, refl, sym, ap, _∙_}
-use mathlib.Core.List.{List, [], _++_}
+use mathlib.Core.List.{List}
 use mathlib.Core.Bool.{Bool, true, false, cond}
 use native.Mathlib.Omega.{arith}
-use lib.ListN.{length, getD, drop}
+use lib.ListN.{length, getD}
 use lib.Dec.{eqb, ltb}
 use borrow.Author.Tests.{eq-eqb, ne-eqb, lt-ltb, le-ltb}
 use Rattle.molecule.specs.Molecule.{Molecule, kind}
@@ -13,11 +13,11 @@ use Rattle.molecule.specs.Written.{cardBytes}
 use Rattle.molecule.proofs.Alike.{cardBytes-alike}
 use Rattle.sling.specs.Scanned.{tokens}
 use Rattle.sling.specs.Reading as rules
-use Rattle.sling.specs.Faults.{Outcome, stopped, finished, judged, run}
+use Rattle.sling.specs.Faults.{stopped, finished, judged, run}
 use Rattle.sling.specs.Folded.{heavyPlaces, folded, loneH, ended, readText}
 use Rattle.lists.proofs.All.{all-getD}
 use Rattle.sling.proofs.Tidy.{Reader}
-use Rattle.rules.specs.Answers.{inRoom, atExit, readInto, cardOf}
+use Rattle.rules.specs.Answers.{inRoom, atExit, cardOf}
 use Rattle.lent.specs.declared.Output.{Output}
 use Rattle.lent.specs.Written.{Written}
 use Rattle.text.specs.declared.Answer.{Answer}

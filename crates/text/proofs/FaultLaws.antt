@@ -1,31 +1,30 @@
 -- The faults of an item, by the counts that a reader keeps.
-use Prim.Native.Nat.{ℕ, zero, suc, _+_, _-_, _≤_, _<_}
+use Prim.Native.Nat.{ℕ, zero, suc, _+_, _-_, _<_}
 use mathlib.Core.Path.{_≡_, refl, sym, ap, ap₂, _∙_}
 use mathlib.Core.List.{List, [], _∷_, _++_, map}
-use mathlib.Core.Bool.{Bool, true, false, cond, not, _&&_, _||_, or-true, or-false, and-false, and-true}
+use mathlib.Core.Bool.{Bool, true, false, cond, not, _&&_, _||_, or-true, or-false}
 use native.Mathlib.Numerals.{add-one}
-use native.Mathlib.Nat.{zero-add}
 use native.Mathlib.Omega.{arith}
-use lib.ListN.{length, getD, length-append, List·getD-append}
+use lib.ListN.{length, getD, List·getD-append}
 use lib.Seq.{getD-append-seam}
 use lib.Dec.{eqb, ltb, leb}
-use borrow.Author.Tests.{eq-eqb, ne-eqb, eqb-true, lt-ltb, le-ltb, ltb-true, ltb-false, le-leb, lt-leb}
+use borrow.Author.Tests.{eq-eqb, ne-eqb, eqb-true, lt-ltb, le-ltb}
 use Rattle.lists.specs.Upto.{upto, each}
 use Rattle.lists.specs.Tests.{count, some}
 use Rattle.lists.proofs.Steps.{each-zero, some-next}
 use Rattle.lists.proofs.Tested.{some-pass}
 use Rattle.lists.proofs.Upto.{mem-upto}
 use Rattle.molecule.specs.Bonds.{Bond, on, joins}
-use Rattle.sling.specs.Items.{Target, at, Item, atom, reference, ring}
+use Rattle.sling.specs.Items.{Target, at, atom, reference, ring}
 use Rattle.sling.specs.Reading.{State, placeOf, after, drawn, isH, toH, hydrogensOn, bondsOn}
-use Rattle.sling.specs.Faults.{wrongH, brokenH, heavyAtoms, hydrogenAtoms, heavyBonds, overAt, over, itemFault}
-use Rattle.lists.proofs.All.{All, map-all, count-all-none}
+use Rattle.sling.specs.Faults.{wrongH, brokenH, heavyAtoms, hydrogenAtoms, heavyBonds, over, itemFault}
+use Rattle.lists.proofs.All.{count-all-none}
 use Rattle.lists.proofs.Passed.{count-snoc}
-use Rattle.sling.proofs.Tidy.{Reader, Proper}
+use Rattle.sling.proofs.Tidy.{Reader}
 use Rattle.sling.proofs.Limits.{Room}
 use Rattle.text.specs.Holding.{bit, hBit, hBond, grownBy, bondedBy}
 use Rattle.text.specs.Judging.{hBroken, overIn, overOn, firstFault}
-use Rattle.text.proofs.StateLaws.{bit-not, grown-hydrogensOn, grown-bondsOn, grown-heavyBonds}
+use Rattle.text.proofs.StateLaws.{grown-hydrogensOn, grown-bondsOn, grown-heavyBonds}
 
 -- one that passes is one of them
 pub some-pass-below : (n : ℕ) (p : ℕ → Bool) (a : ℕ) → a < n → p a ≡ true → some (each n p) ≡ true

@@ -1,18 +1,17 @@
 -- Folding: the bonds one by one.
 use Prim.Native.Nat.{ℕ, zero, suc, _+_, _≤_, _<_}
-use mathlib.Core.Path.{_≡_, refl, sym, ap, ap₂, subst, _∙_}
+use mathlib.Core.Path.{_≡_, refl, sym, ap, subst, _∙_}
 use mathlib.Core.List.{List, [], _∷_, _++_, map}
-use mathlib.Core.Bool.{Bool, true, false, cond, not, _&&_, _||_, or-true, and-false, and-true}
-use mathlib.Core.Logic.{_⊎_, inl, inr, ⊎-elim}
-use native.Mathlib.Nat.{add-zero, zero-add}
+use mathlib.Core.Bool.{Bool, true, false, cond, not, _&&_, or-true, and-false, and-true}
+use mathlib.Core.Logic.{_⊎_, inl, inr}
+use native.Mathlib.Nat.{add-zero}
 use native.Mathlib.Numerals.{add-one}
 use native.Mathlib.Omega.{arith}
 use lib.ListN.{length, getD, take}
 use lib.Seq.{take-suc, take-length}
-use lib.Dec.{eqb, ltb}
-use borrow.Author.Tests.{eq-eqb, ne-eqb, eqb-true, eqb-false, not-true, ltb-false}
-use Rattle.lists.specs.Upto.{upto}
-use Rattle.lists.specs.Tests.{keep, count, some}
+use lib.Dec.{eqb}
+use borrow.Author.Tests.{eq-eqb, ne-eqb, eqb-true, eqb-false, not-true}
+use Rattle.lists.specs.Tests.{count, some}
 use Rattle.lists.proofs.Upto.{getD-each}
 use Rattle.lists.proofs.Members.{getD-mem}
 use Rattle.lists.proofs.Passed.{count-take}
@@ -21,9 +20,9 @@ use Rattle.molecule.specs.Molecule.{Molecule, neighbours}
 use Rattle.molecule.specs.Renumbering.{Renumbered}
 use Rattle.molecule.proofs.BondLists.{codeIn-swap}
 use Rattle.sling.specs.Reading as rules
-use Rattle.sling.specs.Reading.{isH, toH, hydrogensOn, bondsOn}
+use Rattle.sling.specs.Reading.{isH, toH, hydrogensOn}
 use Rattle.sling.specs.Folded.{heavyPlaces, folded}
-use Rattle.lists.proofs.All.{All, all-mem}
+use Rattle.lists.proofs.All.{all-mem}
 use Rattle.lists.proofs.Passed.{count-snoc}
 use Rattle.sling.proofs.Tidy.{Proper, Tidy}
 use Rattle.molecule.proofs.BondLists.{joins-ends}

@@ -1,8 +1,8 @@
 -- What holds of every state that some items lead to: the reader is tidy, no limit is passed, and the arrays are long enough.
-use Prim.Native.Nat.{ℕ, zero, suc, _+_, _≤_, _<_}
-use mathlib.Core.Path.{_≡_, refl, sym, ap, _∙_}
+use Prim.Native.Nat.{ℕ, zero, suc, _≤_, _<_}
+use mathlib.Core.Path.{_≡_, refl, ap, _∙_}
 use mathlib.Core.List.{List, [], _∷_, _++_, map, map-append}
-use mathlib.Core.Bool.{Bool, true, false, cond, not}
+use mathlib.Core.Bool.{Bool, true, false}
 use native.Mathlib.Omega.{arith}
 use lib.ListN.{length, getD}
 use lib.Dec.{eqb}
@@ -11,7 +11,7 @@ use Rattle.molecule.specs.Bonds.{Bond}
 use Rattle.sling.specs.Items as rule
 use Rattle.sling.specs.Scanned.{Token, tok, bad}
 use Rattle.sling.specs.Reading.{State, start, after}
-use Rattle.sling.specs.Faults.{Outcome, stopped, finished, judged, run, itemFault, codeOf, heavyAtoms, hydrogenAtoms}
+use Rattle.sling.specs.Faults.{finished, judged, run, itemFault, codeOf}
 use Rattle.sling.specs.Folded.{loneH}
 use Rattle.lists.proofs.All.{All}
 use Rattle.lists.proofs.Booleans.{and-both}

@@ -4,12 +4,12 @@ use mathlib.Core.Path.{_≡_, refl, sym, ap, _∙_}
 use mathlib.Core.List.{List, [], _∷_}
 use native.Mathlib.Nat.{add-zero}
 use native.Mathlib.Omega.{arith}
-use lib.ListN.{length, getD, drop, drop-of-length-le}
+use lib.ListN.{length, drop, drop-of-length-le}
 use lib.Seq.{drop-cons, drop-drop}
 use Rattle.sling.specs.Items.{Item}
-use Rattle.sling.specs.Scanned.{Token, tok, bad, got, broken, scan, token, tokens}
+use Rattle.sling.specs.Scanned.{Token, tok, got, broken, scan, token, tokens}
 use Rattle.sling.specs.Reading.{State, after}
-use Rattle.sling.specs.Faults.{Outcome, stopped, finished, judged, run, itemFault}
+use Rattle.sling.specs.Faults.{stopped, finished, judged, run, itemFault}
 
 -- passing over bytes
 skip : (l : List ℕ) (k o : ℕ) → tokens l k o ≡ tokens (drop k l) 0 (o + k)

@@ -1,20 +1,20 @@
 -- What stands at an offset of a text, by the bytes there: one law for each answer of the code.
 use Prim.Native.Nat.{ℕ, zero, suc, _+_, _-_, _≤_, _<_}
-use mathlib.Core.Path.{_≡_, refl, sym, ap, _∙_}
+use mathlib.Core.Path.{_≡_, refl, ap, _∙_}
 use mathlib.Core.List.{List, [], _∷_}
-use mathlib.Core.Bool.{Bool, true, false, cond, not, _&&_, _||_}
+use mathlib.Core.Bool.{true, false, not, _&&_}
 use native.Mathlib.Numerals.{add-one}
 use native.Mathlib.Omega.{arith}
 use lib.ListN.{length, getD, drop, length-drop, drop-of-length-le}
 use lib.Seq.{drop-cons}
-use lib.Dec.{ltb, leb, eqb}
+use lib.Dec.{eqb}
 use borrow.Author.Tests.{lt-ltb, le-ltb, eq-eqb, ne-eqb}
 use Rattle.molecule.specs.Kinds.{kindOfSymbol}
 use Rattle.sling.specs.Items as rule
 use Rattle.sling.specs.Scanned as rules
-use Rattle.sling.specs.Scanned.{isCapital, isSmall, isDigit, markOf, smallFirst, numberAt, placed, stepped, target, bracketed, body, scan}
+use Rattle.sling.specs.Scanned.{isCapital, isSmall, markOf, smallFirst, numberAt, target, bracketed, body, scan}
 use Rattle.text.specs.declared.item.Target.the-variants.{At, Up}
-use Rattle.text.specs.declared.item.Item.the-variants.{Atom, Reference, Ring}
+use Rattle.text.specs.declared.item.Item.the-variants.{Atom}
 use Rattle.text.specs.declared.item.Scanned.{Scanned}
 use Rattle.text.specs.declared.item.Scanned.the-variants.{Got, Broken}
 use Rattle.text.specs.declared.target.Aim.{Aim}

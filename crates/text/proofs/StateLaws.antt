@@ -1,25 +1,25 @@
 -- The changes of a state, in the rules' terms.
 use Prim.Native.Nat.{ℕ, zero, suc, _+_, _-_, _≤_, _<_}
 use mathlib.Core.Path.{_≡_, refl, sym, ap, ap₂, _∙_}
-use mathlib.Core.List.{List, [], _∷_, _++_, map}
-use mathlib.Core.Bool.{Bool, true, false, cond, not, _&&_, _||_, or-true, or-false, and-false, and-true}
+use mathlib.Core.List.{List, [], _∷_, _++_}
+use mathlib.Core.Bool.{Bool, true, false, cond, not, _&&_, _||_, or-true}
 use native.Mathlib.Decide.{ℕ-discrete}
 use native.Mathlib.Nat.{add-zero}
 use native.Mathlib.Numerals.{add-one}
 use native.Mathlib.Omega.{arith}
-use lib.ListN.{length, getD, take, set, length-set, replicate, length-replicate, List·getD-append, List·getD-eq-default}
+use lib.ListN.{length, getD, take, set, length-set, replicate, length-replicate, List·getD-append}
 use lib.Seq.{take-suc-set, getD-set-same, getD-set-other, getD-take, length-take-le}
-use lib.Dec.{eqb, ltb}
-use borrow.Author.Tests.{eq-eqb, ne-eqb, eqb-true, eqb-false}
+use lib.Dec.{eqb}
+use borrow.Author.Tests.{eqb-true, eqb-false}
 use Rattle.lists.specs.Upto.{each}
 use Rattle.lists.specs.Tests.{count}
 use Rattle.lists.proofs.Upto.{each-eq, length-each}
 use Rattle.lists.proofs.Steps.{each-zero, each-next}
 use Rattle.molecule.specs.Bonds.{Bond, on}
 use Rattle.sling.specs.Reading as rules
-use Rattle.sling.specs.Reading.{isH, toH, drawn, hydrogensOn, bondsOn}
+use Rattle.sling.specs.Reading.{toH, drawn, hydrogensOn, bondsOn}
 use Rattle.sling.specs.Faults.{heavyAtoms, hydrogenAtoms, heavyBonds}
-use Rattle.lists.proofs.All.{All, map-all}
+use Rattle.lists.proofs.All.{map-all}
 use Rattle.lists.proofs.Passed.{count-snoc}
 use Rattle.sling.proofs.Tidy.{Reader, Proper}
 use Rattle.text.specs.declared.state.State.{State}

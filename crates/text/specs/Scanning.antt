@@ -9,7 +9,6 @@ use Rattle.sling.specs.Items as rule
 use Rattle.sling.specs.Scanned as rules
 use Rattle.sling.specs.Scanned.{isDigit, markOf, numberAt, placed, stepped, target, bracketed, body, scan}
 use Rattle.sling.specs.Faults.{codeOf}
-use Rattle.text.specs.declared.item.Place.{Place}
 use Rattle.text.specs.declared.item.Target.{Target}
 use Rattle.text.specs.declared.item.Target.the-variants.{At, Up}
 use Rattle.text.specs.declared.item.Item.{Item}

@@ -1,5 +1,5 @@
+-- One law of AnswerLaws for each return, with the refusals that were not due before it.
 use mathlib.Core.Path.{_∙_, sym}
-use native.Mathlib.Omega.{arith}
 use Rattle.text.specs.Holding.{viewOf}
 use Rattle.text.proofs.ReachedLaws.{reached-reader}
 use Rattle.text.proofs.AnswerLaws.{answer-1, answer-4, answer-item, answer-7, answer-10, answer-0, folded-known}

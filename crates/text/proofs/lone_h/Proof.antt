@@ -1,3 +1,4 @@
+-- One law for each return: no atom, a first atom that is no H, a first atom that is H.
 use Rattle.text.proofs.AnswerLaws.{lone-none, lone-heavy, lone-light}
 use borrow.Author.Needs.{needs}
 use Rattle.text.proofs.lone_h.Statement.{statement}

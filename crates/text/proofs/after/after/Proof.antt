@@ -1,6 +1,6 @@
-use Prim.Native.Nat.{ℕ, _≤_}
-use mathlib.Core.Path.{_≡_, _∙_, sym, ap, subst}
-use native.Mathlib.Omega.{arith}
+-- The change of each kind of item, carried over to the item that was matched.
+use Prim.Native.Nat.{ℕ}
+use mathlib.Core.Path.{_∙_, sym, ap, subst}
 use Rattle.sling.specs.Reading as rules
 use Rattle.sling.specs.Reading.{after}
 use Rattle.text.specs.declared.item.Item.{Item}

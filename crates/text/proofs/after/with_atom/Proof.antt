@@ -1,8 +1,8 @@
+-- An atom that was not refused has room, and is the first or is bonded to the cursor's.
 use Prim.Native.Nat.{ℕ}
-use mathlib.Core.Path.{_≡_, _∙_, sym, ap, subst}
+use mathlib.Core.Path.{_∙_, sym, ap, subst}
 use native.Mathlib.Omega.{arith}
 use Rattle.sling.specs.Reading as rules
-use Rattle.sling.specs.Items.{atom}
 use Rattle.text.specs.Holding.{viewOf, grownBy, movedTo, bondedBy, Drawable}
 use Rattle.text.proofs.StateLaws.{view-places}
 use Rattle.text.proofs.AfterLaws.{held-by, more-places, first-after, later-after, grown-drawable}

@@ -1,3 +1,4 @@
+-- One law of JudgedLaws for each return, with the tests that failed before it.
 use mathlib.Core.Path.{_∙_, sym}
 use Rattle.text.proofs.JudgedLaws.{atom-3, atom-7, atom-7′, atom-4, atom-4′, atom-0}
 use borrow.Author.Needs.{needs}

@@ -1,5 +1,5 @@
+-- Each return is the test that it comes after.
 use borrow.Author.Tests.{lt-ltb, le-ltb}
-use borrow.Author.Needs.{needs}
 use Rattle.text.proofs.fault.first_fault.Statement.{statement}
 use Rattle.text.proofs.fault.first_fault.Tie as tie
 use Rattle.text.proofs.fault.first_fault.Reads as reads

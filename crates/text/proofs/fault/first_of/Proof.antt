@@ -1,5 +1,5 @@
+-- The test is the one of the definition.
 use borrow.Author.Tests.{eq-eqb, ne-eqb}
-use borrow.Author.Needs.{needs}
 use Rattle.text.proofs.fault.first_of.Statement.{statement}
 use Rattle.text.proofs.fault.first_of.Tie as tie
 use Rattle.text.proofs.fault.first_of.Reads as reads

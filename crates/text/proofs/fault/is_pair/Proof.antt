@@ -1,3 +1,4 @@
+-- The two tests are the two ways round of the definition.
 use mathlib.Core.Path.{_∙_, sym}
 use borrow.Author.Needs.{needs}
 use Rattle.text.proofs.fault.is_pair.Statement.{statement}

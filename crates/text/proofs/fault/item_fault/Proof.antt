@@ -1,9 +1,10 @@
+-- The judgement of each kind of item, carried over to the item that was matched.
 use Prim.Native.Nat.{ℕ}
 use mathlib.Core.Path.{_∙_, sym, ap}
-use Rattle.sling.specs.Items.{at, atom, reference, ring}
+use Rattle.sling.specs.Items.{at, reference, ring}
 use Rattle.sling.specs.Faults.{itemFault}
 use Rattle.text.specs.declared.item.Item.{Item}
-use Rattle.text.specs.Scanning.{itemOf, targetOf}
+use Rattle.text.specs.Scanning.{itemOf}
 use Rattle.text.specs.Holding.{viewOf}
 use Rattle.text.proofs.StateLaws.{view-places}
 use Rattle.text.proofs.FaultLaws.{first-fault, first-reference, first-ring, ring-named, reference-named}

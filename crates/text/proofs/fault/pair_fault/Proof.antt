@@ -1,3 +1,4 @@
+-- The two tests are the two sides of the definition's `||`.
 use mathlib.Core.Path.{_∙_, sym}
 use mathlib.Core.Bool.{or-true}
 use borrow.Author.Tests.{eq-eqb, ne-eqb}

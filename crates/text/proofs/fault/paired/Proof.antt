@@ -1,6 +1,7 @@
+-- None of the bonds before i joins the two, so the first that does decides.
 use Prim.Native.Nat.{ℕ, _≤_, _-_}
-use mathlib.Core.Path.{_≡_, refl, _∙_, sym, ap}
-use mathlib.Core.Bool.{Bool, true, false}
+use mathlib.Core.Path.{_≡_, _∙_, sym, ap}
+use mathlib.Core.Bool.{false}
 use native.Mathlib.Omega.{arith}
 use Rattle.lists.specs.Upto.{each}
 use Rattle.lists.specs.Tests.{some}

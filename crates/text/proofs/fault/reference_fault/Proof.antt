@@ -1,3 +1,4 @@
+-- A reference changes no count, so that only its place can be at fault.
 use mathlib.Core.Path.{_∙_, sym}
 use borrow.Author.Tests.{le-leb, lt-leb}
 use native.Mathlib.Omega.{arith}

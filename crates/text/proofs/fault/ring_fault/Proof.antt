@@ -1,3 +1,4 @@
+-- One law of JudgedLaws for each return, with the tests that failed before it.
 use mathlib.Core.Path.{_∙_, sym}
 use Rattle.text.proofs.JudgedLaws.{ring-5, ring-first, ring-4, ring-4′, ring-4″, ring-0}
 use borrow.Author.Needs.{needs}

@@ -1,5 +1,5 @@
+-- The two tests are the two sides of the definition's `&&`.
 use borrow.Author.Tests.{eq-eqb, ne-eqb}
-use borrow.Author.Needs.{needs}
 use Rattle.text.proofs.fault.runs.Statement.{statement}
 use Rattle.text.proofs.fault.runs.Tie as tie
 use Rattle.text.proofs.fault.runs.Reads as reads

@@ -1,6 +1,5 @@
-use mathlib.Core.Bool.{or-true}
+-- Each return is the test that it comes after.
 use borrow.Author.Tests.{eq-eqb, ne-eqb, lt-ltb, le-ltb}
-use borrow.Author.Needs.{needs}
 use Rattle.text.proofs.fault.wrong_h.Statement.{statement}
 use Rattle.text.proofs.fault.wrong_h.Tie as tie
 use Rattle.text.proofs.fault.wrong_h.Reads as reads

@@ -1,10 +1,10 @@
+-- The atoms before place p that are no H are in the table, and each place has the number of those before it.
 use Prim.Native.Nat.{ℕ, _≤_, _<_, _-_}
-use mathlib.Core.Path.{_≡_, refl, _∙_, sym, ap, subst}
+use mathlib.Core.Path.{_≡_, _∙_, sym, subst}
 use native.Mathlib.Omega.{arith}
 use native.Mathlib.Nat.{not-suc-le-zero}
 use lib.ListN.{length, getD, length-set}
 use Rattle.table.specs.View.{TidyTable}
-use Rattle.table.specs.Arrays.{asMolecule}
 use Rattle.text.specs.Holding.{viewOf}
 use Rattle.text.specs.Folding.{moleculeOf, heaviesTo, BareTo}
 use Rattle.text.proofs.ReachedLaws.{reached-reader, reached-room}

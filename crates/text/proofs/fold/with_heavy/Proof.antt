@@ -1,5 +1,5 @@
+-- An H leaves the table, and any other atom is the table's own.
 use mathlib.Core.Path.{refl}
-use borrow.Author.Needs.{needs}
 use Rattle.text.proofs.fold.with_heavy.Statement.{statement}
 use Rattle.text.proofs.fold.with_heavy.Tie as tie
 use Rattle.text.proofs.fold.with_heavy.Reads as reads

@@ -1,5 +1,5 @@
+-- A bond to an H leaves the table, and any other is the table's own.
 use mathlib.Core.Path.{refl}
-use borrow.Author.Needs.{needs}
 use Rattle.text.proofs.fold.with_link.Statement.{statement}
 use Rattle.text.proofs.fold.with_link.Tie as tie
 use Rattle.text.proofs.fold.with_link.Reads as reads

@@ -1,3 +1,4 @@
+-- Each return is a byte outside 48 to 57, inside, or none.
 use native.Mathlib.Omega.{arith}
 use borrow.Author.Tests.{lt-ltb, le-ltb, le-leb, lt-leb}
 use Rattle.text.specs.Scanning.{digitAt}

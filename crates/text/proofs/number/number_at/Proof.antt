@@ -1,3 +1,4 @@
+-- One law of NumberLaws for each return, by how many digits stand at the offset.
 use native.Mathlib.Omega.{arith}
 use Rattle.text.proofs.NumberLaws.{none-0, num-1, none-2, num-2, num-3, none-4}
 use borrow.Author.Needs.{needs}

@@ -1,10 +1,11 @@
-use Prim.Native.Nat.{ℕ, _≤_, _<_, _-_}
+-- What is left of the text, read on from here, comes to what the whole text comes to.
+use Prim.Native.Nat.{_-_}
 use mathlib.Core.Path.{_≡_, _∙_, sym, ap, subst}
 use native.Mathlib.Omega.{arith}
 use lib.ListN.{length, drop}
 use Rattle.sling.specs.Reading as rules
 use Rattle.sling.specs.Scanned.{tokens}
-use Rattle.sling.specs.Faults.{finished, judged, run}
+use Rattle.sling.specs.Faults.{run}
 use Rattle.text.specs.Scanning.{scannedOf, Sane}
 use Rattle.text.specs.Holding.{viewOf, Held}
 use Rattle.text.specs.Outcomes.{Reads}

@@ -1,3 +1,4 @@
+-- The definition at the case that was matched.
 use mathlib.Core.Path.{sym, ap}
 use Rattle.text.specs.Scanning.{referenceOf}
 use borrow.Author.Needs.{needs}

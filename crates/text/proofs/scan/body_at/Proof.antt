@@ -1,5 +1,5 @@
-use mathlib.Core.Path.{_≡_, _∙_, sym, subst}
-use native.Mathlib.Omega.{arith}
+-- One law of ScanLaws for each return, by the byte at the offset.
+use mathlib.Core.Path.{_∙_, sym, subst}
 use borrow.Author.Tests.{not-true, not-false}
 use Rattle.text.specs.Scanning.{Bodies}
 use Rattle.text.proofs.ScanLaws.{body-out, body-ring, body-bracket, body-bad, body-letter}

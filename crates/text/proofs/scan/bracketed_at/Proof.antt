@@ -1,8 +1,7 @@
-use mathlib.Core.Path.{_≡_, _∙_, sym}
-use mathlib.Core.Bool.{true, false}
+-- One law of ScanLaws for each return, by the first test that fails.
+use mathlib.Core.Path.{_∙_, sym}
 use native.Mathlib.Omega.{arith}
 use borrow.Author.Tests.{not-true, not-false, eq-eqb, ne-eqb}
-use Rattle.sling.specs.Scanned.{isCapital, isSmall}
 use Rattle.text.proofs.ScanLaws.{bracket-short, bracket-bad, bracket-good}
 use borrow.Author.Needs.{needs}
 use Rattle.text.proofs.scan.bracketed_at.Statement.{statement}

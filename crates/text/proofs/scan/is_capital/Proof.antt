@@ -1,5 +1,5 @@
+-- The two tests are the two sides of the definition's `&&`.
 use borrow.Author.Tests.{le-leb, lt-leb}
-use borrow.Author.Needs.{needs}
 use Rattle.text.proofs.scan.is_capital.Statement.{statement}
 use Rattle.text.proofs.scan.is_capital.Tie as tie
 use Rattle.text.proofs.scan.is_capital.Reads as reads

@@ -1,6 +1,6 @@
+-- Each return is the test that it comes after.
 use native.Mathlib.Omega.{arith}
 use borrow.Author.Tests.{eq-eqb, ne-eqb}
-use borrow.Author.Needs.{needs}
 use Rattle.text.proofs.scan.mark_of.Statement.{statement}
 use Rattle.text.proofs.scan.mark_of.Tie as tie
 use Rattle.text.proofs.scan.mark_of.Reads as reads

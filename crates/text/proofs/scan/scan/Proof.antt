@@ -1,6 +1,5 @@
-use Prim.Native.Nat.{_≤_}
-use mathlib.Core.Path.{_≡_, _∙_, sym, subst}
-use native.Mathlib.Omega.{arith}
+-- One law of ScanLaws for each return, by the item's first byte.
+use mathlib.Core.Path.{_∙_, sym, subst}
 use Rattle.text.specs.Scanning.{Scans}
 use Rattle.text.proofs.ScanLaws.{scan-marked, scan-plus, scan-target, scan-body}
 use borrow.Author.Needs.{needs}

@@ -1,3 +1,4 @@
+-- Past the end no letter stands, before it the byte decides.
 use mathlib.Core.Path.{_∙_}
 use Rattle.text.proofs.ScanLaws.{small-out, small-in}
 use borrow.Author.Needs.{needs}

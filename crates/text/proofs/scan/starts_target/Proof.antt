@@ -1,6 +1,6 @@
+-- The two tests are the two sides of the definition's `||`.
 use mathlib.Core.Bool.{or-true, or-false}
 use borrow.Author.Tests.{eq-eqb, ne-eqb, le-leb, lt-leb}
-use borrow.Author.Needs.{needs}
 use Rattle.text.proofs.scan.starts_target.Statement.{statement}
 use Rattle.text.proofs.scan.starts_target.Tie as tie
 use Rattle.text.proofs.scan.starts_target.Reads as reads

@@ -1,3 +1,4 @@
+-- The two ends differ, so that each count goes up by one at its own place.
 use native.Mathlib.Omega.{arith}
 use lib.ListN.{getD}
 use Prim.Native.Nat.{_+_, _-_}

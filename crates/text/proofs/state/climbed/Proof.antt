@@ -1,5 +1,6 @@
+-- The steps that are left, from the place reached, lead where all of them lead from the cursor.
 use Prim.Native.Nat.{_-_}
-use Prim.Native.Nat.{_≤_, _<_}
+use Prim.Native.Nat.{_<_}
 use mathlib.Core.Path.{_≡_, refl, _∙_, sym, ap}
 use native.Mathlib.Omega.{arith}
 use Rattle.sling.specs.Reading.{climb}

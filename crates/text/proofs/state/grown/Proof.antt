@@ -1,3 +1,4 @@
+-- The counts stay within the limits of a state that was reached, and are those of one more atom.
 use mathlib.Core.Path.{_∙_}
 use native.Mathlib.Omega.{arith}
 use Rattle.text.specs.Holding.{viewOf}

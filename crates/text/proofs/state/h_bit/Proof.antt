@@ -1,6 +1,6 @@
+-- The test is the one of the definition.
 use native.Mathlib.Omega.{arith}
 use borrow.Author.Tests.{eq-eqb, ne-eqb}
-use borrow.Author.Needs.{needs}
 use Rattle.text.proofs.state.h_bit.Statement.{statement}
 use Rattle.text.proofs.state.h_bit.Tie as tie
 use Rattle.text.proofs.state.h_bit.Reads as reads

@@ -1,3 +1,4 @@
+-- The definition at the case that was matched.
 use mathlib.Core.Path.{_∙_, sym, ap}
 use Rattle.sling.specs.Reading.{placeOf}
 use Rattle.text.specs.Scanning.{targetOf}

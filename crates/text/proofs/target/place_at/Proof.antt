@@ -1,3 +1,4 @@
+-- The number that was read, made into a place.
 use mathlib.Core.Path.{_∙_, sym, ap, subst}
 use native.Mathlib.Omega.{arith}
 use Rattle.text.specs.Scanning.{numberOf, Small}

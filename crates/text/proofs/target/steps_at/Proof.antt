@@ -1,3 +1,4 @@
+-- The number that was read, made into steps, unless it is 0.
 use mathlib.Core.Path.{_∙_, sym, ap, subst}
 use native.Mathlib.Omega.{arith}
 use Rattle.text.specs.Scanning.{numberOf, Small}

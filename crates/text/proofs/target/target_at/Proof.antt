@@ -1,3 +1,4 @@
+-- A `-` makes steps of the number behind it, any other byte a place of the number there.
 use Rattle.text.proofs.ScanLaws.{target-out, target-steps, target-place}
 use borrow.Author.Needs.{needs}
 use Rattle.text.proofs.target.target_at.Statement.{statement}

@@ -1,5 +1,5 @@
+-- No atom and no bond is read from the arrays of zeros, so that they hold the rules' start.
 use Rattle.text.proofs.StateLaws.{none-held}
-use borrow.Author.Needs.{needs}
 use Rattle.text.proofs.state.State.empty.Statement.{statement}
 use Rattle.text.proofs.state.State.empty.Tie as tie
 use Rattle.text.proofs.state.State.empty.Reads as reads
