@@ -1,0 +1,15 @@
+/* The four answers of document 01 by the reference, in the form of include/scallopgrid.h. */
+#ifndef REFERENCE_H
+#define REFERENCE_H
+
+#include "../../include/scallopgrid.h"
+
+struct scallopgrid_answer reference_name(const uint8_t *in, size_t in_length, uint16_t allowance, uint8_t *out,
+                                         size_t room);
+struct scallopgrid_answer reference_card(const uint8_t *in, size_t in_length, uint8_t *out, size_t room);
+struct scallopgrid_answer reference_canonical(const uint8_t *in, size_t in_length, uint16_t allowance, uint8_t *out,
+                                              size_t room);
+struct scallopgrid_answer reference_marks(const uint8_t *in, size_t in_length, uint16_t allowance, uint8_t *out,
+                                          size_t room);
+
+#endif
