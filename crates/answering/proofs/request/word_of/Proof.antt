@@ -1,0 +1,79 @@
+use mathlib.Core.Path.{sym, _∙_}
+use borrow.Author.Needs.{needs}
+use Rattle.answering.specs.Requests.{wordOf}
+use Rattle.answering.proofs.request.word_of.Statement.{statement}
+use Rattle.answering.proofs.request.word_of.Tie as tie
+
+slice-aggregate-is-word : tie.Need-slice-aggregate-is-word
+slice-aggregate-is-word c = search needs
+
+is-word-requires : tie.Need-is-word-requires
+is-word-requires c κs = search needs
+
+returns : tie.Need-returns
+unfolding wordOf
+returns c = rw (sym (c .before .is-word .ensures) ∙ c .if1 .taken)
+
+slice-aggregate-is-word-2 : tie.Need-slice-aggregate-is-word-2
+slice-aggregate-is-word-2 c = search needs
+
+is-word-requires-2 : tie.Need-is-word-requires-2
+is-word-requires-2 c κs = search needs
+
+returns-2 : tie.Need-returns-2
+unfolding wordOf
+returns-2 c = rw (sym (c .before .before .before .before .is-word .ensures) ∙ c .before .before .before .if1 .left, sym (c .before .is-word2 .ensures) ∙ c .if2 .taken)
+
+slice-aggregate-is-word-3 : tie.Need-slice-aggregate-is-word-3
+slice-aggregate-is-word-3 c = search needs
+
+is-word-requires-3 : tie.Need-is-word-requires-3
+is-word-requires-3 c κs = search needs
+
+returns-3 : tie.Need-returns-3
+unfolding wordOf
+returns-3 c = rw (sym (c .before .before .before .before .before .before .before .is-word .ensures) ∙ c .before .before .before .before .before .before .if1 .left, sym (c .before .before .before .before .is-word2 .ensures) ∙ c .before .before .before .if2 .left, sym (c .before .is-word3 .ensures) ∙ c .if3 .taken)
+
+slice-aggregate-is-word-4 : tie.Need-slice-aggregate-is-word-4
+slice-aggregate-is-word-4 c = search needs
+
+is-word-requires-4 : tie.Need-is-word-requires-4
+is-word-requires-4 c κs = search needs
+
+returns-4 : tie.Need-returns-4
+unfolding wordOf
+returns-4 c =
+    rw (
+      sym (c .before .before .before .before .before .before .before .before .before .before .is-word .ensures) ∙ c .before .before .before .before .before .before .before .before .before .if1 .left,
+      sym (c .before .before .before .before .before .before .before .is-word2 .ensures) ∙ c .before .before .before .before .before .before .if2 .left,
+      sym (c .before .before .before .before .is-word3 .ensures) ∙ c .before .before .before .if3 .left,
+      sym (c .before .is-word4 .ensures) ∙ c .if4 .taken,
+    )
+
+returns-5 : tie.Need-returns-5
+unfolding wordOf
+returns-5 c =
+    rw (
+      sym (c .before .before .before .before .before .before .before .before .before .before .is-word .ensures) ∙ c .before .before .before .before .before .before .before .before .before .if1 .left,
+      sym (c .before .before .before .before .before .before .before .is-word2 .ensures) ∙ c .before .before .before .before .before .before .if2 .left,
+      sym (c .before .before .before .before .is-word3 .ensures) ∙ c .before .before .before .if3 .left,
+      sym (c .before .is-word4 .ensures) ∙ c .if4 .left,
+    )
+
+pub word-of-spec : {M : Type 1} → statement M
+word-of-spec =
+    tie.close
+    (tie.spec
+    slice-aggregate-is-word
+    is-word-requires
+    returns
+    slice-aggregate-is-word-2
+    is-word-requires-2
+    returns-2
+    slice-aggregate-is-word-3
+    is-word-requires-3
+    returns-3
+    slice-aggregate-is-word-4
+    is-word-requires-4
+    returns-4
+    returns-5)

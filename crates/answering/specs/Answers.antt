@@ -1,0 +1,34 @@
+-- The line that is printed for a line.
+use mathlib.Core.List.{List, [], _∷_, _++_}
+use Prim.Native.Nat.{ℕ}
+use lib.ListN.{length}
+use Rattle.lists.specs.Quoted as quoted
+use Rattle.rules.specs.Answers.{Answer, nameOf, cardOf, canonicalOf, marksOf}
+use Rattle.lines.specs.Hex.{hexOf}
+use Rattle.lines.specs.Written.{numbered, orDash}
+use Rattle.answering.specs.declared.request.Op.{Op}
+use Rattle.answering.specs.declared.request.Op.the-variants.{Name, Read, Canon, Marks}
+use Rattle.answering.specs.declared.request.Request.{Request}
+use Rattle.answering.specs.declared.request.Request.the-variants.{Asks, Broken}
+use Rattle.answering.specs.Requests.{inputField, inputOf, requestOf}
+
+-- what is asked of the rules; reading a text looks at no allowance
+abbrev pub answerOf : Op → (input : List ℕ) (allowance room : ℕ) → Answer
+answerOf Name i a r = nameOf i a r
+answerOf Read i a r = cardOf i r
+answerOf Canon i a r = canonicalOf i a r
+answerOf Marks i a r = marksOf i a r
+
+-- `REFUSAL PLACE LEAVES LENGTH HEXOUT`
+unfoldable pub shown : (refusal place leaves : ℕ) (bytes : List ℕ) → List ℕ
+shown refusal place leaves bytes =
+    (numbered refusal ++ (numbered place ++ numbered leaves)) ++ (numbered (length bytes) ++ (orDash (hexOf bytes) ++ (10 ∷ [])))
+
+abbrev pub lineFor : Request → (input : List ℕ) → List ℕ
+lineFor Broken input = quoted.bytesOf "BADLINE" ++ (10 ∷ [])
+lineFor (Asks op a r) input =
+    let answer = answerOf op input a r in
+    shown (answer .refusal) (answer .place) (answer .leaves) (answer .bytes)
+
+unfoldable pub answerLine : List ℕ → List ℕ
+answerLine line = lineFor (requestOf line) (inputOf (inputField line))

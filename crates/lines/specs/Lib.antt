@@ -1,0 +1,5 @@
+pub mod Fields
+pub mod Numbers
+pub mod Hex
+pub mod Written
+pub mod Gathered

@@ -1,0 +1,4 @@
+// The name of the card on standard input.
+fn main() {
+    naming::run(libc::STDIN_FILENO);
+}
