@@ -1,25 +1,25 @@
 -- A bond is two halves: each of its atoms in the row of the other.
 use mathlib.Core.Bool.{Bool, true, false, cond, _&&_, _||_}
-use mathlib.Core.Path.{_≡_, refl, sym, _∙_, ap, ap₂}
+use mathlib.Core.Logic.{_≢_}
+use mathlib.Core.Path.{_≡_, refl, sym, _∙_, ap}
 use Prim.Native.Nat.{ℕ, _+_, _<_}
 use native.Mathlib.Omega.{arith}
 use lib.Dec.{eqb}
 use borrow.Author.Tests.{ne-eqb, eqb-true}
-use Rattle.molecule.specs.Bonds.{Bond}
 use Rattle.molecule.specs.Molecule.{Molecule}
-use Rattle.molecule.proofs.BondLists.{joins-swap}
-use Rattle.molecule.proofs.Connected.{Even}
-use Rattle.table.specs.Changes.{bondOf, Joinable, Joined, HalfJoinable, HalfJoined}
+use Rattle.table.specs.Arrays.{Arrays, Tidy, asMolecule}
+use Rattle.table.specs.Changes.{bondOf, Joinable, Joined, Rows, RoomFor, BondPut}
+use Rattle.table.proofs.Halves.{rowsOf, withRows, HalfJoinable, HalfJoined, half-roomy, half}
 
 module _ (M : Molecule) (a b c : ℕ) (J : Joinable M (bondOf a b c)) where
-  pub first-half : HalfJoinable M a b c
+  first-half : HalfJoinable M a b c
   first-half = record { one = J .one; two = J .two; first = J .first; room = J .room-one; some = J .some; known = J .known }
 
   module _ (M′ : Molecule) (H : HalfJoined M a b c M′) where
     other : eqb a b ≡ false
     other = ne-eqb a b (J .apart)
 
-    pub second-half : HalfJoinable M′ b a c
+    second-half : HalfJoinable M′ b a c
     second-half = record {
       one = omega (arith, H .size, J .two);
       two = omega (arith, H .size, J .one);
@@ -49,7 +49,7 @@ module _ (M : Molecule) (a b c : ℕ) (J : Joinable M (bondOf a b c)) where
       ends false true h = refl
       ends false false h = refl
 
-      pub both-halves : Joined M (bondOf a b c) M″
+      both-halves : Joined M (bondOf a b c) M″
       both-halves = record {
         size = G .size ∙ H .size;
         label = λ x. G .label x ∙ H .label x;
@@ -65,9 +65,26 @@ module _ (M : Molecule) (a b c : ℕ) (J : Joinable M (bondOf a b c)) where
             );
       }
 
--- a bond more keeps the codes even
-pub joined-even : (M M′ : Molecule) (b : Bond) → Joined M b M′ → Even M → Even M′
-joined-even M M′ b J even x y h k =
-    let l : x < M .size = omega (arith, J .size) in
-    let m : y < M .size = omega (arith, J .size) in
-    J .code x y l m ∙ ap₂ (λ (s : Bool) (v : ℕ). cond s (b .code) v) (joins-swap x y b) (even x y l m) ∙ sym (J .code y x m l)
+module _ (t : Arrays) (T : Tidy t) (a b c : ℕ) (J : Joinable (asMolecule t) (bondOf a b c)) where
+  back : Joinable (asMolecule t) (bondOf b a c)
+  back = record {
+    one = J .two;
+    two = J .one;
+    apart = λ e. J .apart (sym e);
+    first = J .back;
+    back = J .first;
+    room-one = J .room-two;
+    room-two = J .room-one;
+    some = J .some;
+    known = J .known;
+  }
+
+  pub bond-roomy : RoomFor (rowsOf t) a × RoomFor (rowsOf t) b × (a ≢ b)
+  bond-roomy = (half-roomy t T a b c (first-half (asMolecule t) a b c J), half-roomy t T b a c (first-half (asMolecule t) b a c back), J .apart)
+
+  pub bond-joins : (R : Rows) → BondPut (rowsOf t) a b c R → Tidy (withRows t R) × Joined (asMolecule t) (bondOf a b c) (asMolecule (withRows t R))
+  bond-joins R B =
+      let one = half t T a b c (first-half (asMolecule t) a b c J) (B .between) (B .one) in
+      let M = asMolecule (withRows t (B .between)) in
+      let two = half (withRows t (B .between)) (one .0) b a c (second-half (asMolecule t) a b c J M (one .1)) R (B .two) in
+      (two .0, both-halves (asMolecule t) a b c J M (one .1) (asMolecule (withRows t R)) (two .1))

@@ -1,11 +1,9 @@
 // A molecule in arrays: its atoms in order, and for each atom a row of at most six neighbours, ascending.
 ghost use mathlib.Core.Path.{_≡_};
-ghost use mathlib.Core.Bool.{cond, _&&_};
-ghost use Prim.Native.Nat.{ℕ, _+_, _<_};
-ghost use lib.Dec.{eqb};
+ghost use Prim.Native.Nat.{_<_};
 ghost use Rattle.molecule.specs.Molecule.{connected};
 ghost use Rattle.table.specs.View.{viewOf, TidyTable, EvenTable};
-ghost use Rattle.table.specs.Changes.{Grown, Joinable, Joined, HalfJoinable, HalfJoined, bondOf};
+ghost use Rattle.table.specs.Changes.{Grown, Joinable, Joined, bondOf};
 
 mod flood;
 pub mod rows;
@@ -80,28 +78,25 @@ impl Table {
         t
     }
 
-    // The table with b put into the row of a.
-    fn with_half(self, a: AtomNo, b: AtomNo, code: u8) -> Table
-        requires { ⌜ TidyTable self × HalfJoinable (viewOf self) (a .0) (b .0) code ⌝ }
-        ensures { λ t. ⌜ TidyTable t × HalfJoined (viewOf self) (a .0) (b .0) code (viewOf t) ⌝ }
-    {
-        let i = a.0 as usize;
-        let first = Table::MAX_BONDS_ON * i;
-        let d = wide(self.degrees[i]);
-        let p = rows::place(&self.degrees, &self.near, a, b);
-        let mut t = self;
-        rows::put(&mut t.near, first + p, first + d, b.0);
-        rows::put(&mut t.codes, first + p, first + d, code);
-        t.degrees[i] = narrow(d + 1);
-        t
-    }
-
     // The table with one more bond.
     pub fn with_bond(self, a: AtomNo, b: AtomNo, code: u8) -> Table
         requires { ⌜ TidyTable self × Joinable (viewOf self) (bondOf (a .0) (b .0) code) ⌝ }
         ensures { λ t. ⌜ TidyTable t × Joined (viewOf self) (bondOf (a .0) (b .0) code) (viewOf t) ⌝ }
     {
-        self.with_half(a, b, code).with_half(b, a, code)
+        let kinds = self.kinds;
+        let hydrogens = self.hydrogens;
+        let mut degrees = self.degrees;
+        let mut near = self.near;
+        let mut codes = self.codes;
+        rows::put_bond(&mut degrees, &mut near, &mut codes, a, b, code);
+        Table {
+            n: self.n,
+            kinds,
+            hydrogens,
+            degrees,
+            near,
+            codes,
+        }
     }
 
     // Whether every atom is reached from atom 0: atoms are looked at in the order in which they were seen, each row once.
