@@ -11,9 +11,11 @@ use Rattle.molecule.specs.Layout.{atomsLength, inLayout, atomCount, bondCount, 
 use Rattle.molecule.specs.Judged.{bondFault, bondsFault}
 use Rattle.table.specs.declared.Table.{Table}
 use Rattle.table.specs.Arrays.{HasRow}
-use Rattle.table.specs.View.{arraysOf, viewOf, TidyTable}
-use Rattle.table.specs.Changes.{bondOf, Joinable, Joined}
+use Rattle.table.specs.View.{arraysOf, viewOf}
+use Rattle.table.specs.Changes.{bondOf, Joinable, Joined, Rows, RoomFor, BondPut}
 use Rattle.table.proofs.Views.{tidy-row}
+use Rattle.table.proofs.Halves.{rowsOf}
+use Rattle.table.proofs.Joins.{bond-roomy, bond-joins}
 use Rattle.card.specs.declared.CardRead.{CardRead}
 use Rattle.card.specs.Tests.{bondTested}
 use Rattle.card.specs.Reading.{Holds, BondsRead}
@@ -21,6 +23,10 @@ use Rattle.card.proofs.Faults.{Rest, rest-start, rest-stop, rest-next, 
 use Rattle.card.proofs.Layouts.{laid}
 use Rattle.card.proofs.Holding.{holds-joinable, holds-bond}
 use Rattle.card.proofs.Judged.{tested-judged}
+
+-- the same atoms with other rows
+abbrev pub rowed : Table → Rows → Table
+rowed t R = record { n = t .n; kinds = t .kinds; hydrogens = t .hydrogens; degrees = R .degrees; near = R .near; codes = R .codes }
 
 pub record Bonding (s : List ℕ) (t : Table) (k : ℕ) : Type 0 where
   pub few : k ≤ bondCount s
@@ -55,16 +61,22 @@ module _ (s : List ℕ) where
         ap (λ (m : ℕ). bondTested m (t .degrees) (t .near) (t .codes) (bondIn place)) e
         ∙ ap (bondTested (atomCount s) (t .degrees) (t .near) (t .codes)) bond-is ∙ tested-judged s k t (B .holds)
 
-    pub bonding-joinable : bondTested n (t .degrees) (t .near) (t .codes) (bondIn place) ≡ 0 → Joinable (viewOf t) (bondIn place)
+    bonding-joinable : bondTested n (t .degrees) (t .near) (t .codes) (bondIn place) ≡ 0 → Joinable (viewOf t) (bondIn place)
     bonding-joinable z = subst (Joinable (viewOf t)) (sym bond-is) (holds-joinable s k t (B .holds) (sym judged ∙ z))
 
+    pub bonding-roomy : bondTested n (t .degrees) (t .near) (t .codes) (bondIn place) ≡ 0
+        → RoomFor (rowsOf (arraysOf t)) (getD s place 0) × RoomFor (rowsOf (arraysOf t)) (getD s (place + 1) 0) × (getD s place 0 ≢ getD s (place + 1) 0)
+    bonding-roomy z = bond-roomy (arraysOf t) (B .holds .tidy) (getD s place 0) (getD s (place + 1) 0) (getD s (place + 2) 0) (bonding-joinable z)
+
     pub bonding-next : k < bondCount s → bondTested n (t .degrees) (t .near) (t .codes) (bondIn place) ≡ 0
-        → (t′ : Table) → TidyTable t′ → Joined (viewOf t) (bondIn place) (viewOf t′) → Bonding s t′ (k + 1)
-    bonding-next l z t′ T J = record {
-      few = omega arith;
-      holds = holds-bond s k t (B .holds) (sym judged ∙ z) t′ T (subst (λ (b : Bond). Joined (viewOf t) b (viewOf t′)) bond-is J);
-      rest = B .rest ∙ rest-next (bondFault s) (bondCount s) k l (sym judged ∙ z);
-    }
+        → (R : Rows) → BondPut (rowsOf (arraysOf t)) (getD s place 0) (getD s (place + 1) 0) (getD s (place + 2) 0) R → Bonding s (rowed t R) (k + 1)
+    bonding-next l z R P =
+        let w = bond-joins (arraysOf t) (B .holds .tidy) (getD s place 0) (getD s (place + 1) 0) (getD s (place + 2) 0) (bonding-joinable z) R P in
+        record {
+          few = omega arith;
+          holds = holds-bond s k t (B .holds) (sym judged ∙ z) (rowed t R) (w .0) (subst (λ (b : Bond). Joined (viewOf t) b (viewOf (rowed t R))) bond-is (w .1));
+          rest = B .rest ∙ rest-next (bondFault s) (bondCount s) k l (sym judged ∙ z);
+        }
 
     pub bonding-stop : k < bondCount s → (r : CardRead) (fault : ℕ) → fault ≡ bondTested n (t .degrees) (t .near) (t .codes) (bondIn place) → fault ≢ 0
         → r .refusal ≡ fault → BondsRead s r

@@ -55,29 +55,38 @@ fn bond_fault<'a>(
     0
 }
 
-// The bonds in order, each added to the table.
+// The bonds in order, each put into the rows in place; the table is made once, at the end.
 pub fn read_bonds(card: &[u8], bare: Table, m: usize) -> CardRead
     requires { ⌜ (inLayout (now card) ≡ true) × (m ≡ bondCount (now card)) × Holds (now card) (atomCount (now card)) 0 bare ⌝ }
     ensures { λ r. ⌜ BondsRead (now (card .entry)) r ⌝ }
 {
     let n = bare.n;
     let first = 2 * n + 6;
-    let mut t = bare;
+    let kinds = bare.kinds;
+    let hydrogens = bare.hydrogens;
+    let mut degrees = bare.degrees;
+    let mut near = bare.near;
+    let mut codes = bare.codes;
     let mut k: usize = 0;
     while k < m {
         let at = first + 3 * k;
         let a = AtomNo(card[at]);
         let b = AtomNo(card[at + 1]);
         let code = card[at + 2];
-        let fault = bond_fault(n, &t.degrees, &t.near, &t.codes, a, b, code);
+        let fault = bond_fault(n, &degrees, &near, &codes, a, b, code);
         if fault != 0 {
             return refused(fault);
         }
-        t = t.with_bond(a, b, code);
+        table::rows::put_bond(&mut degrees, &mut near, &mut codes, a, b, code);
         k += 1;
     }
-    CardRead {
-        refusal: 0,
-        table: t,
-    }
+    let table = Table {
+        n,
+        kinds,
+        hydrogens,
+        degrees,
+        near,
+        codes,
+    };
+    CardRead { refusal: 0, table }
 }
