@@ -12,7 +12,7 @@ use Rattle.molecule.specs.Judged.{bondFault, bondsFault}
 use Rattle.table.specs.declared.Table.{Table}
 use Rattle.table.specs.Arrays.{HasRow}
 use Rattle.table.specs.View.{arraysOf, viewOf}
-use Rattle.table.specs.Changes.{bondOf, Joinable, Joined, Rows, RoomFor, BondPut}
+use Rattle.table.specs.Changes.{bondOf, Joinable, Joined, RowArrays, RoomFor, BondPut}
 use Rattle.table.proofs.Views.{tidy-row}
 use Rattle.table.proofs.Halves.{rowsOf}
 use Rattle.table.proofs.Joins.{bond-roomy, bond-joins}
@@ -25,7 +25,7 @@ use Rattle.card.proofs.Holding.{holds-joinable, holds-bond}
 use Rattle.card.proofs.Judged.{tested-judged}
 
 -- the same atoms with other rows
-abbrev pub rowed : Table → Rows → Table
+abbrev pub rowed : Table → RowArrays → Table
 rowed t R = record { n = t .n; kinds = t .kinds; hydrogens = t .hydrogens; degrees = R .degrees; near = R .near; codes = R .codes }
 
 pub record Bonding (s : List ℕ) (t : Table) (k : ℕ) : Type 0 where
@@ -69,7 +69,7 @@ module _ (s : List ℕ) where
     bonding-roomy z = bond-roomy (arraysOf t) (B .holds .tidy) (getD s place 0) (getD s (place + 1) 0) (getD s (place + 2) 0) (bonding-joinable z)
 
     pub bonding-next : k < bondCount s → bondTested n (t .degrees) (t .near) (t .codes) (bondIn place) ≡ 0
-        → (R : Rows) → BondPut (rowsOf (arraysOf t)) (getD s place 0) (getD s (place + 1) 0) (getD s (place + 2) 0) R → Bonding s (rowed t R) (k + 1)
+        → (R : RowArrays) → BondPut (rowsOf (arraysOf t)) (getD s place 0) (getD s (place + 1) 0) (getD s (place + 2) 0) R → Bonding s (rowed t R) (k + 1)
     bonding-next l z R P =
         let w = bond-joins (arraysOf t) (B .holds .tidy) (getD s place 0) (getD s (place + 1) 0) (getD s (place + 2) 0) (bonding-joinable z) R P in
         record {

@@ -8,7 +8,7 @@ use lib.Dec.{eqb}
 use borrow.Author.Tests.{ne-eqb, eqb-true}
 use Rattle.molecule.specs.Molecule.{Molecule}
 use Rattle.table.specs.Arrays.{Arrays, Tidy, asMolecule}
-use Rattle.table.specs.Changes.{bondOf, Joinable, Joined, Rows, RoomFor, BondPut}
+use Rattle.table.specs.Changes.{bondOf, Joinable, Joined, RowArrays, RoomFor, BondPut}
 use Rattle.table.proofs.Halves.{rowsOf, withRows, HalfJoinable, HalfJoined, half-roomy, half}
 
 module _ (M : Molecule) (a b c : ℕ) (J : Joinable M (bondOf a b c)) where
@@ -82,7 +82,7 @@ module _ (t : Arrays) (T : Tidy t) (a b c : ℕ) (J : Joinable (asMolecule t) (b
   pub bond-roomy : RoomFor (rowsOf t) a × RoomFor (rowsOf t) b × (a ≢ b)
   bond-roomy = (half-roomy t T a b c (first-half (asMolecule t) a b c J), half-roomy t T b a c (first-half (asMolecule t) b a c back), J .apart)
 
-  pub bond-joins : (R : Rows) → BondPut (rowsOf t) a b c R → Tidy (withRows t R) × Joined (asMolecule t) (bondOf a b c) (asMolecule (withRows t R))
+  pub bond-joins : (R : RowArrays) → BondPut (rowsOf t) a b c R → Tidy (withRows t R) × Joined (asMolecule t) (bondOf a b c) (asMolecule (withRows t R))
   bond-joins R B =
       let one = half t T a b c (first-half (asMolecule t) a b c J) (B .between) (B .one) in
       let M = asMolecule (withRows t (B .between)) in
