@@ -12,10 +12,10 @@ use Rattle.molecule.specs.Judged.{bondFault, bondsFault}
 use Rattle.table.specs.declared.Table.{Table}
 use Rattle.table.specs.Arrays.{HasRow}
 use Rattle.table.specs.View.{arraysOf, viewOf}
-use Rattle.table.specs.Changes.{bondOf, Joinable, Joined, RowArrays, RoomFor, BondPut}
+use Rattle.table.specs.Changes.{bondOf, RowArrays, RoomFor, BondPut}
 use Rattle.table.proofs.Views.{tidy-row}
 use Rattle.table.proofs.Halves.{rowsOf}
-use Rattle.table.proofs.Joins.{bond-roomy, bond-joins}
+use Rattle.table.proofs.Joins.{Joinable, Joined, rowed, bond-roomy, bond-joins}
 use Rattle.card.specs.declared.CardRead.{CardRead}
 use Rattle.card.specs.Tests.{bondTested}
 use Rattle.card.specs.Reading.{Holds, BondsRead}
@@ -23,10 +23,6 @@ use Rattle.card.proofs.Faults.{Rest, rest-start, rest-stop, rest-next, 
 use Rattle.card.proofs.Layouts.{laid}
 use Rattle.card.proofs.Holding.{holds-joinable, holds-bond}
 use Rattle.card.proofs.Judged.{tested-judged}
-
--- the same atoms with other rows
-abbrev pub rowed : Table → RowArrays → Table
-rowed t R = record { n = t .n; kinds = t .kinds; hydrogens = t .hydrogens; degrees = R .degrees; near = R .near; codes = R .codes }
 
 pub record Bonding (s : List ℕ) (t : Table) (k : ℕ) : Type 0 where
   pub few : k ≤ bondCount s

@@ -21,7 +21,8 @@ use Rattle.molecule.proofs.Judging.{Fits, judged-fits}
 use Rattle.table.specs.declared.Table.{Table}
 use Rattle.table.specs.Arrays.{asMolecule}
 use Rattle.table.specs.View.{viewOf, TidyTable, EvenTable}
-use Rattle.table.specs.Changes.{Grown, Joinable, Joined}
+use Rattle.table.proofs.Growing.{Grown}
+use Rattle.table.proofs.Joins.{Joinable, Joined}
 use Rattle.card.specs.Reading.{Holds}
 
 module _ (s : List ℕ) where

@@ -26,7 +26,7 @@ fn atom_fault(kind: u8, hydrogens: u8) -> u8
     0
 }
 
-// The atoms in order, then the total of their hydrogens. The table is changed in place, as `with_atom` would.
+// The atoms in order, then the total of their hydrogens. The table is changed in place.
 pub fn read_atoms(card: &[u8], n: usize) -> CardRead
     requires { ⌜ (inLayout (now card) ≡ true) × (n ≡ atomCount (now card)) × (n ≤ 64) ⌝ }
     ensures { λ r. ⌜ AtomsRead (now (card .entry)) r ⌝ }

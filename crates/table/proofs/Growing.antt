@@ -5,12 +5,22 @@ use Prim.Native.Nat.{ℕ, suc, _+_, _*_, _<_, _≤_}
 use native.Mathlib.Decide.{ℕ-discrete}
 use native.Mathlib.Omega.{arith}
 use lib.Dec.{eqb}
-use lib.ListN.{getD, take, drop, set, length-set}
+use lib.ListN.{length, getD, take, drop, set, length-set}
 use lib.Seq.{getD-set-same, getD-set-other}
 use Rattle.lists.specs.Tests.{find}
+use Rattle.molecule.specs.Molecule.{Molecule, neighbours}
 use Rattle.table.specs.Arrays.{Arrays, Tidy, codeFound, asMolecule}
-use Rattle.table.specs.Changes.{Grown}
 use Rattle.table.proofs.Views.{code-none, degree-row}
+
+-- an atom more, after the others and with no bond
+pub record Grown (M : Molecule) (kind hydrogens : ℕ) (M′ : Molecule) : Type 0 where
+  pub size : M′ .size ≡ suc (M .size)
+  pub label : (a : ℕ) → a < M .size → M′ .label a ≡ M .label a
+  pub last : M′ .label (M .size) ≡ kind ∷ hydrogens ∷ []
+  pub code : (a b : ℕ) → a < M .size → b < M .size → M′ .code a b ≡ M .code a b
+  pub alone : (a : ℕ) → a ≤ M .size → (M′ .code a (M .size) ≡ 0) × (M′ .code (M .size) a ≡ 0)
+  pub degree : (a : ℕ) → a < M .size → length (neighbours M′ a) ≡ length (neighbours M a)
+  pub none : length (neighbours M′ (M .size)) ≡ 0
 
 module _ (t : Arrays) (T : Tidy t) (k h : ℕ) (room : t .n < 64) where
   abbrev after : Arrays

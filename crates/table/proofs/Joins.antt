@@ -2,14 +2,36 @@
 use mathlib.Core.Bool.{Bool, true, false, cond, _&&_, _||_}
 use mathlib.Core.Logic.{_≢_}
 use mathlib.Core.Path.{_≡_, refl, sym, _∙_, ap}
-use Prim.Native.Nat.{ℕ, _+_, _<_}
+use Prim.Native.Nat.{ℕ, _+_, _<_, _≤_}
 use native.Mathlib.Omega.{arith}
 use lib.Dec.{eqb}
+use lib.ListN.{length}
 use borrow.Author.Tests.{ne-eqb, eqb-true}
-use Rattle.molecule.specs.Molecule.{Molecule}
+use Rattle.molecule.specs.Bonds.{Bond, on, joins}
+use Rattle.molecule.specs.Molecule.{Molecule, neighbours}
+use Rattle.table.specs.declared.Table.{Table}
 use Rattle.table.specs.Arrays.{Arrays, Tidy, asMolecule}
-use Rattle.table.specs.Changes.{bondOf, Joinable, Joined, RowArrays, RoomFor, BondPut}
+use Rattle.table.specs.Changes.{bondOf, RowArrays, RoomFor, BondPut}
 use Rattle.table.proofs.Halves.{rowsOf, withRows, HalfJoinable, HalfJoined, half-roomy, half}
+
+-- the bond b can be added: its atoms are there, are two, have no bond yet with each other and fewer than six with others, and its code is one
+pub record Joinable (M : Molecule) (b : Bond) : Type 0 where
+  pub one : b .one < M .size
+  pub two : b .two < M .size
+  pub apart : b .one ≢ b .two
+  pub first : M .code (b .one) (b .two) ≡ 0
+  pub back : M .code (b .two) (b .one) ≡ 0
+  pub room-one : length (neighbours M (b .one)) < 6
+  pub room-two : length (neighbours M (b .two)) < 6
+  pub some : 0 < b .code
+  pub known : b .code ≤ 4
+
+-- the bond b more
+pub record Joined (M : Molecule) (b : Bond) (M′ : Molecule) : Type 0 where
+  pub size : M′ .size ≡ M .size
+  pub label : (a : ℕ) → M′ .label a ≡ M .label a
+  pub code : (x y : ℕ) → x < M .size → y < M .size → M′ .code x y ≡ cond (joins x y b) (b .code) (M .code x y)
+  pub degree : (x : ℕ) → x < M .size → length (neighbours M′ x) ≡ length (neighbours M x) + cond (on x b) 1 0
 
 module _ (M : Molecule) (a b c : ℕ) (J : Joinable M (bondOf a b c)) where
   first-half : HalfJoinable M a b c
@@ -64,6 +86,10 @@ module _ (M : Molecule) (a b c : ℕ) (J : Joinable M (bondOf a b c)) where
               ends (eqb a x) (eqb b x) (λ e f. J .apart (eqb-true a x e ∙ sym (eqb-true b x f))),
             );
       }
+
+-- the same table with other rows
+abbrev pub rowed : Table → RowArrays → Table
+rowed t R = record { n = t .n; kinds = t .kinds; hydrogens = t .hydrogens; degrees = R .degrees; near = R .near; codes = R .codes }
 
 module _ (t : Arrays) (T : Tidy t) (a b c : ℕ) (J : Joinable (asMolecule t) (bondOf a b c)) where
   back : Joinable (asMolecule t) (bondOf b a c)

@@ -2,6 +2,7 @@ pub mod ListLaws
 pub mod RowLaws
 pub mod Views
 pub mod Growing
+pub mod Unbonded
 pub mod Halves
 pub mod Joins
 pub mod FloodLaws

@@ -3,7 +3,6 @@ ghost use mathlib.Core.Path.{_≡_};
 ghost use Prim.Native.Nat.{_<_};
 ghost use Rattle.molecule.specs.Molecule.{connected};
 ghost use Rattle.table.specs.View.{viewOf, TidyTable, EvenTable};
-ghost use Rattle.table.specs.Changes.{Grown, Joinable, Joined, bondOf};
 
 mod flood;
 pub mod rows;
@@ -61,41 +60,6 @@ impl Table {
             degrees: [0u8; Table::MAX_ATOMS],
             near: [0u8; Table::SLOTS],
             codes: [0u8; Table::SLOTS],
-        }
-    }
-
-    // The table with one more atom, which has no bond yet.
-    pub fn with_atom(self, kind: u8, hydrogens: u8) -> Table
-        requires { ⌜ TidyTable self × (self .n < 64) ⌝ }
-        ensures { λ t. ⌜ TidyTable t × Grown (viewOf self) kind hydrogens (viewOf t) ⌝ }
-    {
-        let n = self.n;
-        let mut t = self;
-        t.kinds[n] = kind;
-        t.hydrogens[n] = hydrogens;
-        t.degrees[n] = 0;
-        t.n = n + 1;
-        t
-    }
-
-    // The table with one more bond.
-    pub fn with_bond(self, a: AtomNo, b: AtomNo, code: u8) -> Table
-        requires { ⌜ TidyTable self × Joinable (viewOf self) (bondOf (a .0) (b .0) code) ⌝ }
-        ensures { λ t. ⌜ TidyTable t × Joined (viewOf self) (bondOf (a .0) (b .0) code) (viewOf t) ⌝ }
-    {
-        let kinds = self.kinds;
-        let hydrogens = self.hydrogens;
-        let mut degrees = self.degrees;
-        let mut near = self.near;
-        let mut codes = self.codes;
-        rows::put_bond(&mut degrees, &mut near, &mut codes, a, b, code);
-        Table {
-            n: self.n,
-            kinds,
-            hydrogens,
-            degrees,
-            near,
-            codes,
         }
     }
 

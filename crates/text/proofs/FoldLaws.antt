@@ -1,30 +1,40 @@
--- Folding: the atoms one by one, then the bonds one by one.
+-- Folding: the atoms one by one.
 use Prim.Native.Nat.{ℕ, zero, suc, _+_, _≤_, _<_}
-use mathlib.Core.Path.{_≡_, refl, sym, ap, subst, _∙_}
-use mathlib.Core.List.{List, [], _∷_, _++_, append-nil}
-use mathlib.Core.Bool.{Bool, true, false, not}
+use mathlib.Core.Path.{_≡_, refl, sym, ap, ap₂, subst, _∙_}
+use mathlib.Core.List.{List, [], _∷_, _++_, map, append-nil}
+use mathlib.Core.Bool.{Bool, true, false, cond, not, _&&_, _||_, or-true, and-false, and-true}
+use mathlib.Core.Logic.{_⊎_, inl, inr, ⊎-elim}
 use native.Mathlib.Decide.{ℕ-discrete}
-use native.Mathlib.Nat.{not-suc-le-zero}
+use native.Mathlib.Nat.{not-suc-le-zero, add-zero}
 use native.Mathlib.Numerals.{add-one}
 use native.Mathlib.Omega.{arith}
-use lib.ListN.{length, getD, set, length-append, List·getD-append}
+use lib.ListN.{length, getD, set, replicate, length-set, length-replicate, length-append, List·getD-append}
 use lib.Seq.{getD-append-seam, getD-set-same, getD-set-other}
-use borrow.Author.Tests.{ne-eqb, eqb-true, eqb-false}
+use lib.Dec.{eqb, ltb}
+use borrow.Author.Tests.{eq-eqb, ne-eqb, eqb-true, eqb-false, ltb-true, ltb-false}
 use Rattle.lists.specs.Upto.{from, upto, each}
-use Rattle.lists.specs.Tests.{keep, count}
+use Rattle.lists.specs.Tests.{keep, count, some}
 use Rattle.lists.proofs.Steps.{keep-next, count-next}
 use Rattle.lists.proofs.Passed.{length-keep}
+use Rattle.lists.proofs.Members.{getD-mem}
+use Rattle.lists.proofs.Passed.{count-take}
+use Rattle.molecule.specs.Bonds.{Bond, on, joins, codeIn}
 use Rattle.molecule.specs.Molecule.{Molecule, neighbours}
+use Rattle.molecule.specs.Renumbering.{Renumbered}
 use Rattle.sling.specs.Reading as rules
-use Rattle.sling.specs.Reading.{isH, hydrogensOn}
+use Rattle.sling.specs.Reading.{isH, toH, hydrogensOn, bondsOn}
+use Rattle.sling.specs.Faults.{heavyAtoms}
 use Rattle.sling.specs.Folded.{heavyPlaces, folded}
-use Rattle.sling.proofs.Tidy.{Tidy}
+use Rattle.lists.proofs.All.{All, all-mem}
+use Rattle.lists.proofs.Passed.{count-snoc}
+use Rattle.sling.proofs.Tidy.{Proper, Tidy}
+use Rattle.molecule.proofs.BondLists.{joins-ends}
 use Rattle.sling.proofs.Limits.{Room}
-use Rattle.sling.proofs.Folds.{folded-size}
-use Rattle.table.specs.Changes.{Grown}
-use Rattle.table.specs.declared.Table.{Table}
+use Rattle.sling.proofs.Folds.{folded-size, place-heavy}
+use Rattle.table.specs.Arrays as arrays
 use Rattle.table.specs.Arrays.{asMolecule}
-use Rattle.text.specs.Folding.{moleculeOf, heaviesTo, BareTo, Atoms}
+use Rattle.table.proofs.Unbonded.{unbonded, unbonded-tidy, unbonded-code, unbonded-degree}
+use Rattle.text.specs.Folding.{heaviesTo, HeavyPut, BareTo}
 
 -- how many numbers below i pass, for one i and a later one
 count-more : (p : ℕ → Bool) (i n : ℕ) → i ≤ n → count (each i p) ≤ count (each n p)
@@ -102,57 +112,73 @@ module _ (p : ℕ → Bool) where
 abbrev pub heavy : rules.State → ℕ → Bool
 heavy s p = not (isH s p)
 
-pub bare-start : (s : rules.State) (M : Molecule) → M .size ≡ 0 → BareTo s 0 M
+-- the kinds and hydrogens of the places below i that have no H, in their order
+pub record Heavies (s : rules.State) (i n : ℕ) (ks hs : List ℕ) : Type 0 where
+  pub kindsLong : length ks ≡ 64
+  pub hydrogensLong : length hs ≡ 64
+  pub size : n ≡ length (heaviesTo s i)
+  pub kinds : (a : ℕ) → a < n → getD ks a 0 ≡ getD (s .kinds) (getD (heaviesTo s i) a 0) 0
+  pub hydrogens : (a : ℕ) → a < n → getD hs a 0 ≡ hydrogensOn s (getD (heaviesTo s i) a 0)
+
+pub heavies-start : (s : rules.State) → Heavies s 0 0 (replicate 64 0) (replicate 64 0)
 unfolding keep from
-bare-start s M e =
+heavies-start s =
     record {
-      size = e;
-      label = λ a h. absurd (omega arith);
-      code = λ a b h k. absurd (omega arith);
-      none = λ a h. absurd (omega arith);
+      kindsLong = length-replicate {A = ℕ} 64 0;
+      hydrogensLong = length-replicate {A = ℕ} 64 0;
+      size = refl;
+      kinds = λ a h. absurd (omega arith);
+      hydrogens = λ a h. absurd (omega arith);
     }
 
+-- what an array has of some places, it has of one more
+one-more : (f : ℕ → ℕ) (l places : List ℕ) (n i x : ℕ) → n ≡ length places → n < length l → x ≡ f i → ((a : ℕ) → a < n → getD l a 0 ≡ f (getD places a 0))
+    → (a : ℕ) → a < n + 1 → getD (set l n x) a 0 ≡ f (getD (places ++ (i ∷ [])) a 0)
+one-more f l places n i x e h q g a k = pick (ℕ-discrete a n)
+  where
+    pick : Dec (a ≡ n) → getD (set l n x) a 0 ≡ f (getD (places ++ (i ∷ [])) a 0)
+    pick (yes z) = rw z (getD-set-same l n x 0 h ∙ q ∙ ap f (sym (rw e (getD-append-seam places i [] 0))))
+    pick (no z) = getD-set-other l n a x 0 z ∙ g a (omega arith) ∙ ap f (sym (List·getD-append places (i ∷ []) 0 a (omega arith)))
+
 -- one place more
-module _ (s : rules.State) (i : ℕ) (M : Molecule) (B : BareTo s i M) where
-  same-places : (M′ : Molecule) → heaviesTo s (suc i) ≡ heaviesTo s i → M′ ≡ M → BareTo s (suc i) M′
-  same-places M′ e q =
-      rw q (record { size = rw e (B .size); label = λ a h. rw e (B .label a h); code = B .code; none = B .none })
+module _ (s : rules.State) (i n : ℕ) (ks hs : List ℕ) (B : Heavies s i n ks hs) (k h : ℕ) (ek : k ≡ getD (s .kinds) i 0) (eh : h ≡ hydrogensOn s i) where
+  same-places : heaviesTo s (suc i) ≡ heaviesTo s i → Heavies s (suc i) n ks hs
+  same-places e =
+      record { kindsLong = B .kindsLong; hydrogensLong = B .hydrogensLong; size = rw e (B .size); kinds = λ a l. rw e (B .kinds a l); hydrogens = λ a l. rw e (B .hydrogens a l) }
 
-  new-place : (M′ : Molecule) (k h : ℕ) → heaviesTo s (suc i) ≡ heaviesTo s i ++ (i ∷ []) → k ≡ getD (s .kinds) i 0 → h ≡ hydrogensOn s i → Grown M k h M′
-      → BareTo s (suc i) M′
-  new-place M′ k h e ek eh G =
+  new-place : heaviesTo s (suc i) ≡ heaviesTo s i ++ (i ∷ []) → n < 64 → Heavies s (suc i) (n + 1) (set ks n k) (set hs n h)
+  new-place e l =
       record {
-        size = rw e (omega (arith, G .size, B .size, length-append (heaviesTo s i) (i ∷ [])));
-        label = λ a l. rw e (labelled a (ℕ-discrete a (M .size)) (omega (arith, G .size)));
-        code = λ a b l j. coded a b (ℕ-discrete a (M .size)) (ℕ-discrete b (M .size)) (omega (arith, G .size)) (omega (arith, G .size));
-        none = λ a l. bare a (ℕ-discrete a (M .size)) (omega (arith, G .size));
+        kindsLong = length-set ks n k ∙ B .kindsLong;
+        hydrogensLong = length-set hs n h ∙ B .hydrogensLong;
+        size = rw e (omega (arith, B .size, length-append (heaviesTo s i) (i ∷ [])));
+        kinds = rw e (one-more (λ p. getD (s .kinds) p 0) ks (heaviesTo s i) n i k (B .size) (omega (arith, B .kindsLong)) ek (B .kinds));
+        hydrogens = rw e (one-more (hydrogensOn s) hs (heaviesTo s i) n i h (B .size) (omega (arith, B .hydrogensLong)) eh (B .hydrogens));
       }
+
+  pub heavies-step : ((k ≡ 0 → ⊥) → n < 64) → (n′ : ℕ) (ks′ hs′ : List ℕ) → HeavyPut n k h ks hs n′ ks′ hs′ → Heavies s (i + 1) n′ ks′ hs′
+  heavies-step room n′ ks′ hs′ A = rw (add-one i) (pick (isH s i) refl)
     where
-      labelled : (a : ℕ) → Dec (a ≡ M .size) → a ≤ M .size
-          → M′ .label a ≡ getD (s .kinds) (getD (heaviesTo s i ++ (i ∷ [])) a 0) 0 ∷ hydrogensOn s (getD (heaviesTo s i ++ (i ∷ [])) a 0) ∷ []
-      labelled a (yes z) l =
-          let w : getD (heaviesTo s i ++ (i ∷ [])) a 0 ≡ i = rw (z, B .size) (getD-append-seam (heaviesTo s i) i [] 0) in
-          rw w (ap (M′ .label) z ∙ G .last ∙ rw (ek, eh))
-      labelled a (no z) l =
-          let d : a < M .size = omega arith in
-          let f : a < length (heaviesTo s i) = omega (arith, B .size) in
-          rw (List·getD-append (heaviesTo s i) (i ∷ []) 0 a f) (G .label a d ∙ B .label a d)
+      test : (b : Bool) → isH s i ≡ b → eqb k 0 ≡ b
+      test b e = ap (λ (x : ℕ). eqb x 0) ek ∙ e
 
-      coded : (a b : ℕ) → Dec (a ≡ M .size) → Dec (b ≡ M .size) → a ≤ M .size → b ≤ M .size → M′ .code a b ≡ 0
-      coded a b (yes z) y l j = ap (λ (x : ℕ). M′ .code x b) z ∙ G .alone b j .1
-      coded a b (no z) (yes y) l j = ap (M′ .code a) y ∙ G .alone a l .0
-      coded a b (no z) (no y) l j = G .code a b (omega arith) (omega arith) ∙ B .code a b (omega arith) (omega arith)
+      pick : (b : Bool) → isH s i ≡ b → Heavies s (suc i) n′ ks′ hs′
+      pick true e =
+          rw (A .count, A .kinds, A .hydrogens, test true e) (same-places (kept-miss (heavy s) i (rw e)))
+      pick false e =
+          rw (A .count, A .kinds, A .hydrogens, test false e) (new-place (kept-hit (heavy s) i (rw e)) (room (eqb-false _ _ (test false e))))
 
-      bare : (a : ℕ) → Dec (a ≡ M .size) → a ≤ M .size → length (neighbours M′ a) ≡ 0
-      bare a (yes z) l = ap (λ (x : ℕ). length (neighbours M′ x)) z ∙ G .none
-      bare a (no z) l = G .degree a (omega arith) ∙ B .none a (omega arith)
-
-  pub bare-step : (M′ : Molecule) (k h : ℕ) → k ≡ getD (s .kinds) i 0 → h ≡ hydrogensOn s i → Atoms M k h M′ → BareTo s (i + 1) M′
-  bare-step M′ k h ek eh A = rw (add-one i) (pick (isH s i) refl)
-    where
-      pick : (b : Bool) → isH s i ≡ b → BareTo s (suc i) M′
-      pick true e = same-places M′ (kept-miss (heavy s) i (rw e)) (A .none (ek ∙ eqb-true _ _ e))
-      pick false e = new-place M′ k h (kept-hit (heavy s) i (rw e)) ek eh (A .one (λ z. eqb-false _ _ e (sym ek ∙ z)))
+pub heavies-bare : (s : rules.State) (i n : ℕ) (ks hs : List ℕ) → n ≤ 64 → Heavies s i n ks hs → arrays.Tidy (unbonded n ks hs) × BareTo s i (asMolecule (unbonded n ks hs))
+unfolding asMolecule
+heavies-bare s i n ks hs l B = (
+  unbonded-tidy n ks hs l (B .kindsLong) (B .hydrogensLong),
+  record {
+    size = B .size;
+    label = λ a h. λ j. B .kinds a h j ∷ B .hydrogens a h j ∷ [];
+    code = λ a b h k. unbonded-code n ks hs l (B .kindsLong) (B .hydrogensLong) a b h;
+    none = λ a h. unbonded-degree n ks hs l (B .kindsLong) (B .hydrogensLong) a h;
+  },
+)
 
 -- the atoms of a tidy reader are few enough
 module _ (s : rules.State) (t : Tidy (s .kinds) (s .bonds)) (m : Room s) where
@@ -168,10 +194,6 @@ module _ (s : rules.State) (t : Tidy (s .kinds) (s .bonds)) (m : Room s) where
   pub bare-small : (i : ℕ) → i ≤ length (s .kinds) → length (heaviesTo s i) ≤ 64
   bare-small i h =
       omega (arith, heavies-few, kept-count (heavy s) i, kept-count (heavy s) (length (s .kinds)), count-more (heavy s) i (length (s .kinds)) h)
-
-pub table-size : (t : Table) → moleculeOf t .size ≡ t .n
-unfolding asMolecule
-table-size t = refl
 
 -- the numbers by place, one more
 pub numbered-more : (s : rules.State) (l : List ℕ) (p x : ℕ) → p < length l → x ≡ length (heaviesTo s p) → ((q : ℕ) → q < p → getD l q 0 ≡ length (heaviesTo s q))

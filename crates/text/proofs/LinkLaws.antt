@@ -27,9 +27,11 @@ use Rattle.lists.proofs.Passed.{count-snoc}
 use Rattle.sling.proofs.Tidy.{Proper, Tidy}
 use Rattle.molecule.proofs.BondLists.{joins-ends}
 use Rattle.sling.proofs.Limits.{Room}
-use Rattle.table.specs.Changes.{Joinable, Joined, bondOf}
+use Rattle.table.specs.Changes.{bondOf, RowArrays}
 use Rattle.table.specs.declared.Table.{Table}
-use Rattle.table.specs.View.{TidyTable}
+use Rattle.table.specs.View.{arraysOf, TidyTable}
+use Rattle.table.proofs.Halves.{rowsOf}
+use Rattle.table.proofs.Joins.{Joinable, Joined, rowed, bond-roomy, bond-joins}
 use Rattle.text.specs.declared.state.State.{State}
 use Rattle.text.specs.Holding.{bondAt, viewOf, Held}
 use Rattle.text.specs.Folding.{moleculeOf, heaviesTo, BareTo, Linkable, Links}
@@ -239,16 +241,17 @@ module _ (s : rules.State) where
         pub link-fits : Room s → (kx ≡ 0 → ⊥) → (ky ≡ 0 → ⊥) → Joinable M (bondOf x y m)
         link-fits r u v = rw (nx, ny, em) (joinable (heavy-by ex u) (heavy-by ey v) r)
 
-        pub link-step : (M′ : Molecule) → Links M kx ky x y m M′ → LinkedTo (k + 1) M′
-        link-step M′ K = pick (isH s (b .one)) (isH s (b .two)) refl refl
+        -- with an H at an end nothing is to be done, else the bond is to be added
+        pub link-step : {P : Type 0} → ((kx ≡ 0) ⊎ (ky ≡ 0) → LinkedTo (k + 1) M → P)
+            → ((kx ≡ 0 → ⊥) → (ky ≡ 0 → ⊥) → ((M′ : Molecule) → Joined M (bondOf x y m) M′ → LinkedTo (k + 1) M′) → P) → P
+        link-step {P} none some = pick (isH s (b .one)) (isH s (b .two)) refl refl
           where
-            pick : (u v : Bool) → isH s (b .one) ≡ u → isH s (b .two) ≡ v → LinkedTo (k + 1) M′
-            pick true v e f = skipped M′ (rw e) (K .one (ex ∙ eqb-true _ _ e))
-            pick false true e f = skipped M′ (rw (f, or-true)) (K .two (ey ∙ eqb-true _ _ f))
+            pick : (u v : Bool) → isH s (b .one) ≡ u → isH s (b .two) ≡ v → P
+            pick true v e f = none (inl (ex ∙ eqb-true _ _ e)) (skipped M (rw e) refl)
+            pick false true e f = none (inr (ey ∙ eqb-true _ _ f)) (skipped M (rw (f, or-true)) refl)
             pick false false e f =
-                linked e f M′
-                (subst (λ (d : Bond). Joined M d M′) (λ i. bondOf (nx i) (ny i) (em i))
-                (K .bond (λ z. eqb-false _ _ e (sym ex ∙ z)) (λ z. eqb-false _ _ f (sym ey ∙ z))))
+                some (λ z. eqb-false _ _ e (sym ex ∙ z)) (λ z. eqb-false _ _ f (sym ey ∙ z))
+                (λ M′ J. linked e f M′ (subst (λ (d : Bond). Joined M d M′) (λ i. bondOf (nx i) (ny i) (em i)) J))
 
 -- a state's bond, with the numbers of its atoms
 module _ (st : State) (H : Held st) (k : ℕ) (h : k < st .drawn) (x y : ℕ) (ex : x ≡ getD (st .one) k 0) (ey : y ≡ getD (st .two) k 0)
@@ -293,13 +296,17 @@ module _ (st : State) (H : Held st) (k : ℕ) (h : k < st .drawn) (x y : ℕ) (e
   code-is = ap (λ (d : Bond). d .code) (sym bond-is)
 
   module _ (t : Table) (T : TidyTable t) (L : LinkedTo (viewOf st) k (moleculeOf t)) where
-    pub fold-fits : Linkable t (getD (st .kinds) x 0) (getD (st .kinds) y 0) (getD numbers x 0) (getD numbers y 0) (getD (st .code) k 0)
-    fold-fits =
-        record {
-          tidy = T;
-          fits = link-fits (viewOf st) tidy-view k later (moleculeOf t) L _ _ _ _ _ kind-one kind-two number-one number-two code-is (reached-room (viewOf st) (H .reached));
-        }
+    joins-at : (getD (st .kinds) x 0 ≡ 0 → ⊥) → (getD (st .kinds) y 0 ≡ 0 → ⊥) → Joinable (moleculeOf t) (bondOf (getD numbers x 0) (getD numbers y 0) (getD (st .code) k 0))
+    joins-at = link-fits (viewOf st) tidy-view k later (moleculeOf t) L _ _ _ _ _ kind-one kind-two number-one number-two code-is (reached-room (viewOf st) (H .reached))
 
-    pub fold-step : (r : Table) → Links (moleculeOf t) (getD (st .kinds) x 0) (getD (st .kinds) y 0) (getD numbers x 0) (getD numbers y 0) (getD (st .code) k 0) (moleculeOf r)
-        → LinkedTo (viewOf st) (k + 1) (moleculeOf r)
-    fold-step r K = link-step (viewOf st) tidy-view k later (moleculeOf t) L _ _ _ _ _ kind-one kind-two number-one number-two code-is (moleculeOf r) K
+    pub fold-fits : Linkable (rowsOf (arraysOf t)) (getD (st .kinds) x 0) (getD (st .kinds) y 0) (getD numbers x 0) (getD numbers y 0)
+    fold-fits u v = bond-roomy (arraysOf t) T (getD numbers x 0) (getD numbers y 0) (getD (st .code) k 0) (joins-at u v)
+
+    pub fold-step : (R : RowArrays) → Links (rowsOf (arraysOf t)) (getD (st .kinds) x 0) (getD (st .kinds) y 0) (getD numbers x 0) (getD numbers y 0) (getD (st .code) k 0) R
+        → TidyTable (rowed t R) × LinkedTo (viewOf st) (k + 1) (moleculeOf (rowed t R))
+    fold-step R K =
+        link-step (viewOf st) tidy-view k later (moleculeOf t) L _ _ _ _ _ kind-one kind-two number-one number-two code-is
+        (λ z l. subst (λ (Q : RowArrays). TidyTable (rowed t Q) × LinkedTo (viewOf st) (k + 1) (moleculeOf (rowed t Q))) (sym (⊎-elim (K .one) (K .two) z)) (T, l))
+        (λ u v f.
+        let w = bond-joins (arraysOf t) T (getD numbers x 0) (getD numbers y 0) (getD (st .code) k 0) (joins-at u v) R (K .bond u v) in
+        (w .0, f (moleculeOf (rowed t R)) (w .1)))

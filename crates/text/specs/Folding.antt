@@ -1,9 +1,10 @@
 -- The molecule that a text writes, put together atom by atom and bond by bond.
-use Prim.Native.Nat.{ℕ, _<_}
+use Prim.Native.Nat.{ℕ, _+_, _<_}
 use mathlib.Core.Path.{_≡_}
 use mathlib.Core.List.{List, [], _∷_}
-use mathlib.Core.Bool.{not}
-use lib.ListN.{length, getD}
+use mathlib.Core.Bool.{cond, not}
+use lib.Dec.{eqb}
+use lib.ListN.{length, getD, set}
 use Rattle.lists.specs.Upto.{upto}
 use Rattle.lists.specs.Tests.{keep}
 use Rattle.molecule.specs.Molecule.{Molecule, neighbours}
@@ -12,7 +13,7 @@ use Rattle.sling.specs.Reading.{isH, hydrogensOn}
 use Rattle.table.specs.declared.Table.{Table}
 use Rattle.table.specs.View as table
 use Rattle.table.specs.View.{TidyTable}
-use Rattle.table.specs.Changes.{Grown, Joinable, Joined, bondOf}
+use Rattle.table.specs.Changes.{RowArrays, RoomFor, BondPut}
 use Rattle.text.specs.declared.state.State.{State}
 use Rattle.text.specs.declared.fold.Bare.{Bare}
 use Rattle.text.specs.Holding.{viewOf}
@@ -20,14 +21,11 @@ use Rattle.text.specs.Holding.{viewOf}
 abbrev pub moleculeOf : Table → Molecule
 moleculeOf t = table.viewOf t
 
--- a table that has room for an atom of this kind, and what it is with the atom
-pub record AddsAtom (t : Table) (kind : ℕ) : Type 0 where
-  pub tidy : TidyTable t
-  pub room : (kind ≡ 0 → ⊥) → t .n < 64
-
-pub record Atoms (M : Molecule) (kind hydrogens : ℕ) (M′ : Molecule) : Type 0 where
-  pub none : kind ≡ 0 → M′ ≡ M
-  pub one : (kind ≡ 0 → ⊥) → Grown M kind hydrogens M′
+-- an atom more for a kind that is not H: how many there are, and their kinds and hydrogens
+pub record HeavyPut (n kind h : ℕ) (ks hs : List ℕ) (n′ : ℕ) (ks′ hs′ : List ℕ) : Type 0 where
+  pub count : n′ ≡ cond (eqb kind 0) n (n + 1)
+  pub kinds : ks′ ≡ cond (eqb kind 0) ks (set ks n kind)
+  pub hydrogens : hs′ ≡ cond (eqb kind 0) hs (set hs n h)
 
 -- the places below i that have no H
 abbrev pub heaviesTo : rules.State → ℕ → List ℕ
@@ -46,12 +44,11 @@ pub record Bares (st : State) (r : Bare) : Type 0 where
   pub long : length (r .numbers) ≡ 192
   pub numbers : (p : ℕ) → p < st .n → getD (r .numbers) p 0 ≡ length (heaviesTo (viewOf st) p)
 
--- a table to which a bond can be added if it is between atoms that are no H, and what it is with the bond
-pub record Linkable (t : Table) (kind other a b code : ℕ) : Type 0 where
-  pub tidy : TidyTable t
-  pub fits : (kind ≡ 0 → ⊥) → (other ≡ 0 → ⊥) → Joinable (moleculeOf t) (bondOf a b code)
+-- there is room for a bond if it is between atoms that are no H, and what the rows are with the bond
+abbrev pub Linkable : RowArrays → (kind other a b : ℕ) → Type 0
+Linkable R kind other a b = (kind ≡ 0 → ⊥) → (other ≡ 0 → ⊥) → RoomFor R a × RoomFor R b × (a ≡ b → ⊥)
 
-pub record Links (M : Molecule) (kind other a b code : ℕ) (M′ : Molecule) : Type 0 where
-  pub one : kind ≡ 0 → M′ ≡ M
-  pub two : other ≡ 0 → M′ ≡ M
-  pub bond : (kind ≡ 0 → ⊥) → (other ≡ 0 → ⊥) → Joined M (bondOf a b code) M′
+pub record Links (R : RowArrays) (kind other a b code : ℕ) (R′ : RowArrays) : Type 0 where
+  pub one : kind ≡ 0 → R′ ≡ R
+  pub two : other ≡ 0 → R′ ≡ R
+  pub bond : (kind ≡ 0 → ⊥) → (other ≡ 0 → ⊥) → BondPut R a b code R′

@@ -1,8 +1,10 @@
--- The bonds before k that are to no H are in the table, between the numbers that the atoms at their places have.
+-- Each turn puts a bond between two atoms that are no H into the rows.
 use Prim.Native.Nat.{ℕ, _≤_, _<_, _-_}
+use mathlib.Core.List.{List}
 use mathlib.Core.Path.{_≡_, sym, subst}
 use native.Mathlib.Omega.{arith}
 use lib.ListN.{length, getD}
+use Rattle.table.specs.declared.Table.{Table}
 use Rattle.table.specs.View.{TidyTable}
 use Rattle.text.specs.Holding.{viewOf}
 use Rattle.text.specs.Folding.{moleculeOf, heaviesTo, BareTo}
@@ -11,113 +13,93 @@ use Rattle.text.proofs.LinkLaws.{LinkedTo, linked-start, linked-end, lo
 use borrow.Author.Needs.{needs}
 use Rattle.text.proofs.fold.folded.Statement.{statement}
 use Rattle.text.proofs.fold.folded.Tie as tie
-use Rattle.text.proofs.fold.folded.Reads as reads
-use Rattle.text.proofs.fold.folded.Lts as lts
-use Rattle.text.proofs.fold.bare_atoms.Reads as bare-atoms-reads
-use Rattle.text.proofs.fold.with_link.Reads as with-link-reads
-use Rattle.text.proofs.state.wide.Reads as wide-reads
+
+abbrev made : (n : ℕ) (kinds hydrogens degrees near codes : List ℕ) → Table
+made n kinds hydrogens degrees near codes = record { n = n; kinds = kinds; hydrogens = hydrogens; degrees = degrees; near = near; codes = codes }
 
 abbrev Inv-loop : tie.InvT-loop
-Inv-loop st numbers t₀ k₀ t k = (k ≤ st .drawn) × TidyTable t × LinkedTo (viewOf st) k (moleculeOf t) × (length numbers ≡ 192) × ((q : ℕ) → q < st .n → getD numbers q 0 ≡ length (heaviesTo (viewOf st) q))
+Inv-loop st numbers bare kinds hydrogens degrees₀ near₀ codes₀ k₀ degrees near codes k =
+    (k ≤ st .drawn) × TidyTable (made (bare .n) kinds hydrogens degrees near codes) × LinkedTo (viewOf st) k (moleculeOf (made (bare .n) kinds hydrogens degrees near codes))
+    × (length numbers ≡ 192) × ((q : ℕ) → q < st .n → getD numbers q 0 ≡ length (heaviesTo (viewOf st) q))
 
 abbrev μ-loop : tie.MeasureT-loop
-μ-loop st numbers t₀ k₀ t k = st .drawn - k
+μ-loop st numbers bare kinds hydrogens degrees₀ near₀ codes₀ k₀ degrees near codes k = st .drawn - k
 
--- src/fold.rt:62:9
+-- the two places of the bond are there
+low : (c : tie.After-wide2 Inv-loop μ-loop) → (c .before .before .wide .result < 192) × (c .wide2 .result < 192)
+low c =
+    let l = c .before .before .before .before .before in
+    let s = l .before .before .before .before .before .before .before .before .before in (
+      omega (arith, s .pre .tallied .places, low-one (s .args .t1) (s .pre) (l .loop .k) (c .before .before .before .before .loop-test .taken) _ _ (c .before .before .wide .ensures .0) (c .wide2 .ensures .0) (l .before .before .before .before .before .before .before .before .bare-atoms .result .numbers) (l .loop .inv .4)),
+      omega (arith, s .pre .tallied .places, low-two (s .args .t1) (s .pre) (l .loop .k) (c .before .before .before .before .loop-test .taken) _ _ (c .before .before .wide .ensures .0) (c .wide2 .ensures .0) (l .before .before .before .before .before .before .before .before .bare-atoms .result .numbers) (l .loop .inv .4)),
+    )
+
 bare-atoms-requires : tie.Need-bare-atoms-requires Inv-loop μ-loop
 bare-atoms-requires c κs = search needs
 
--- src/fold.rt:66:5
 loop-holds : tie.Need-loop-holds Inv-loop μ-loop
 loop-holds c =
-    let st = c .before .before .before .args .t1 in
-    let B = c .before .before .bare-atoms .ensures in (
+    let st = c .before .before .before .before .before .before .before .before .args .t1 in
+    let r = c .before .before .before .before .before .before .before .bare-atoms .result in
+    let B = c .before .before .before .before .before .before .before .bare-atoms .ensures in (
       omega arith,
       B .tidy,
-      linked-start (viewOf st) _ (subst (λ (i : ℕ). BareTo (viewOf st) i (moleculeOf (c .before .before .bare-atoms .result .table))) (sym (view-places st (c .before .before .before .pre .tallied))) (B .is)),
+      linked-start (viewOf st) _ (subst (λ (i : ℕ). BareTo (viewOf st) i (moleculeOf (r .table))) (sym (view-places st (c .before .before .before .before .before .before .before .before .pre .tallied))) (B .is)),
       B .long,
       B .numbers,
     )
 
--- src/fold.rt:67:24
 element-copy-out-wide : tie.Need-element-copy-out-wide Inv-loop μ-loop
-element-copy-out-wide c = omega (arith, c .before .before .before .before .before .pre .tallied .drawn, c .before .before .before .before .before .pre .tallied .oneLong)
+element-copy-out-wide c = omega (arith, c .loop-test .taken, c .before .before .before .before .before .before .before .before .before .before .pre .tallied .drawn)
 
--- src/fold.rt:67:13
 wide-requires : tie.Need-wide-requires Inv-loop μ-loop
 wide-requires c κs = search needs
 
--- src/fold.rt:68:24
 element-copy-out-wide-2 : tie.Need-element-copy-out-wide-2 Inv-loop μ-loop
-element-copy-out-wide-2 c = omega (arith, c .before .before .before .before .before .before .before .pre .tallied .drawn, c .before .before .before .before .before .before .before .pre .tallied .twoLong)
+element-copy-out-wide-2 c = omega (arith, c .before .before .loop-test .taken, c .before .before .before .before .before .before .before .before .before .before .before .before .pre .tallied .drawn)
 
--- src/fold.rt:68:13
 wide-requires-2 : tie.Need-wide-requires-2 Inv-loop μ-loop
 wide-requires-2 c κs = search needs
 
--- src/fold.rt:69:26
-element-copy-out-with-link : tie.Need-element-copy-out-with-link Inv-loop μ-loop
-element-copy-out-with-link c =
-    let L = c .before .before .before .before .before .loop in
-    let l = low-one (c .before .before .before .before .before .before .before .before .before .args .t1) (c .before .before .before .before .before .before .before .before .before .pre) (L .k) (c .before .before .before .before .loop-test .taken) _ _ (c .before .before .wide .ensures .0) (c .wide2 .ensures .0) (c .before .before .before .before .before .before .before .before .bare-atoms .result .numbers) (L .inv .4) in
-    omega (arith, c .before .before .before .before .before .before .before .before .before .pre .tallied .places, c .before .before .before .before .before .before .before .before .before .pre .tallied .kindsLong)
+element-copy-out-put-link : tie.Need-element-copy-out-put-link Inv-loop μ-loop
+element-copy-out-put-link c = low (c .before .before .before) .0
 
--- src/fold.rt:69:41
-element-copy-out-with-link-2 : tie.Need-element-copy-out-with-link-2 Inv-loop μ-loop
-element-copy-out-with-link-2 c =
-    let L = c .before .before .before .before .before .before .loop in
-    let l = low-two (c .before .before .before .before .before .before .before .before .before .before .args .t1) (c .before .before .before .before .before .before .before .before .before .before .pre) (L .k) (c .before .before .before .before .before .loop-test .taken) _ _ (c .before .before .before .wide .ensures .0) (c .before .wide2 .ensures .0) (c .before .before .before .before .before .before .before .before .before .bare-atoms .result .numbers) (L .inv .4) in
-    omega (arith, c .before .before .before .before .before .before .before .before .before .before .pre .tallied .places, c .before .before .before .before .before .before .before .before .before .before .pre .tallied .kindsLong)
+element-copy-out-put-link-2 : tie.Need-element-copy-out-put-link-2 Inv-loop μ-loop
+element-copy-out-put-link-2 c = low (c .before .before .before .before) .1
 
--- src/fold.rt:69:63
-array-read-t24 : tie.Need-array-read-t24 Inv-loop μ-loop
-array-read-t24 c =
-    let L = c .before .before .before .before .before .before .before .loop in
-    let l = low-one (c .before .before .before .before .before .before .before .before .before .before .before .args .t1) (c .before .before .before .before .before .before .before .before .before .before .before .pre) (L .k) (c .before .before .before .before .before .before .loop-test .taken) _ _ (c .before .before .before .before .wide .ensures .0) (c .before .before .wide2 .ensures .0) (c .before .before .before .before .before .before .before .before .before .before .bare-atoms .result .numbers) (L .inv .4) in
-    omega (arith, c .before .before .before .before .before .before .before .before .before .before .before .pre .tallied .places, L .inv .3)
+array-read-t33 : tie.Need-array-read-t33 Inv-loop μ-loop
+array-read-t33 c = low (c .before .before .before .before .before) .0
 
--- src/fold.rt:69:85
-array-read-t28 : tie.Need-array-read-t28 Inv-loop μ-loop
-array-read-t28 c =
-    let L = c .before .before .before .before .before .before .before .loop in
-    let l = low-two (c .before .before .before .before .before .before .before .before .before .before .before .args .t1) (c .before .before .before .before .before .before .before .before .before .before .before .pre) (L .k) (c .before .before .before .before .before .before .loop-test .taken) _ _ (c .before .before .before .before .wide .ensures .0) (c .before .before .wide2 .ensures .0) (c .before .before .before .before .before .before .before .before .before .before .bare-atoms .result .numbers) (L .inv .4) in
-    omega (arith, c .before .before .before .before .before .before .before .before .before .before .before .pre .tallied .places, L .inv .3)
+array-read-t37 : tie.Need-array-read-t37 Inv-loop μ-loop
+array-read-t37 c = low (c .before .before .before .before .before) .1
 
--- src/fold.rt:69:100
-element-copy-out-with-link-3 : tie.Need-element-copy-out-with-link-3 Inv-loop μ-loop
-element-copy-out-with-link-3 c = omega (arith, c .before .before .before .before .before .before .before .before .before .before .before .pre .tallied .drawn, c .before .before .before .before .before .before .before .before .before .before .before .pre .tallied .codeLong)
+element-copy-out-put-link-3 : tie.Need-element-copy-out-put-link-3 Inv-loop μ-loop
+element-copy-out-put-link-3 c = omega (arith, c .before .before .before .before .before .before .before .before .before .loop-test .taken, c .before .before .before .before .before .before .before .before .before .before .before .before .before .before .before .before .before .before .before .pre .tallied .drawn)
 
--- src/fold.rt:69:9
-with-link-requires : tie.Need-with-link-requires Inv-loop μ-loop
-with-link-requires c κs =
-    let L = c .before .before .before .before .before .before .before .before .loop in
-    fold-fits (c .before .before .before .before .before .before .before .before .before .before .before .before .args .t1) (c .before .before .before .before .before .before .before .before .before .before .before .before .pre) (L .k) (c .before .before .before .before .before .before .before .loop-test .taken) _ _ (c .before .before .before .before .before .wide .ensures .0) (c .before .before .before .wide2 .ensures .0) (c .before .before .before .before .before .before .before .before .before .before .before .bare-atoms .result .numbers) (L .inv .4) (L .t) (L .inv .1) (L .inv .2)
+put-link-requires : tie.Need-put-link-requires Inv-loop μ-loop
+put-link-requires c κs =
+    let l = c .before .before .before .before .before .before .before .before .before .before .before in
+    let s = l .before .before .before .before .before .before .before .before .before in
+    fold-fits (s .args .t1) (s .pre) (l .loop .k) (c .before .before .before .before .before .before .before .before .before .before .loop-test .taken) _ _ (c .before .before .before .before .before .before .before .before .wide .ensures .0) (c .before .before .before .before .before .before .wide2 .ensures .0) (l .before .before .before .before .before .before .before .before .bare-atoms .result .numbers) (l .loop .inv .4) _ (l .loop .inv .1) (l .loop .inv .2)
 
--- src/fold.rt:70:9
 add-k : tie.Need-add-k Inv-loop μ-loop
-add-k c = omega (arith, c .before .before .before .before .before .before .before .before .before .before .before .before .before .pre .tallied .drawn)
+add-k c = omega (arith, c .before .before .before .before .before .before .before .before .before .before .before .loop-test .taken, c .before .before .before .before .before .before .before .before .before .before .before .before .before .before .before .before .before .before .before .before .before .pre .tallied .drawn)
 
--- src/fold.rt:66:5
 loop-less : tie.Need-loop-less Inv-loop μ-loop
-loop-less c = omega arith
+loop-less c = omega (arith, c .before .before .before .before .before .before .before .before .before .before .before .loop-test .taken)
 
--- src/fold.rt:66:5
 loop-again : tie.Need-loop-again Inv-loop μ-loop
 loop-again c =
-    let L = c .before .before .before .before .before .before .before .before .before .loop in (
-      omega arith,
-      c .with-link .ensures .0,
-      fold-step (c .before .before .before .before .before .before .before .before .before .before .before .before .before .args .t1) (c .before .before .before .before .before .before .before .before .before .before .before .before .before .pre) (L .k) (c .before .before .before .before .before .before .before .before .loop-test .taken) _ _ (c .before .before .before .before .before .before .wide .ensures .0) (c .before .before .before .before .wide2 .ensures .0) (c .before .before .before .before .before .before .before .before .before .before .before .before .bare-atoms .result .numbers) (L .inv .4) (L .t) (L .inv .1) (L .inv .2) _ (c .with-link .ensures .1),
-      L .inv .3,
-      L .inv .4,
-    )
+    let l = c .before .before .before .before .before .before .before .before .before .before .before .before in
+    let s = l .before .before .before .before .before .before .before .before .before in
+    let w = fold-step (s .args .t1) (s .pre) (l .loop .k) (c .before .before .before .before .before .before .before .before .before .before .before .loop-test .taken) _ _ (c .before .before .before .before .before .before .before .before .before .wide .ensures .0) (c .before .before .before .before .before .before .before .wide2 .ensures .0) (l .before .before .before .before .before .before .before .before .bare-atoms .result .numbers) (l .loop .inv .4) _ (l .loop .inv .1) (l .loop .inv .2) _ (c .put-link .ensures) in
+    (omega (arith, c .before .before .before .before .before .before .before .before .before .before .before .loop-test .taken), w .0, w .1, l .loop .inv .3, l .loop .inv .4)
 
--- src/fold.rt:58:1
 returns : tie.Need-returns Inv-loop μ-loop
 returns c =
-    let st = c .before .before .before .before .before .args .t1 in
-    let L = c .before .loop in
-    (L .inv .1, linked-end (viewOf st) _ (L .k) (omega (arith, view-bonds st)) (L .inv .2))
+    let l = c .before in
+    let s = l .before .before .before .before .before .before .before .before .before in
+    (l .loop .inv .1, linked-end (viewOf (s .args .t1)) _ (l .loop .k) (omega (arith, c .loop-test .left, l .loop .inv .0, view-bonds (s .args .t1))) (l .loop .inv .2))
 
 pub folded-spec : {M : Type 1} → statement M
 folded-spec =
@@ -131,12 +113,12 @@ folded-spec =
     wide-requires
     element-copy-out-wide-2
     wide-requires-2
-    element-copy-out-with-link
-    element-copy-out-with-link-2
-    array-read-t24
-    array-read-t28
-    element-copy-out-with-link-3
-    with-link-requires
+    element-copy-out-put-link
+    element-copy-out-put-link-2
+    array-read-t33
+    array-read-t37
+    element-copy-out-put-link-3
+    put-link-requires
     add-k
     loop-less
     loop-again
