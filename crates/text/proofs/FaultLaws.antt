@@ -1,30 +1,33 @@
 -- The faults of an item, by the counts that a reader keeps.
-use Prim.Native.Nat.{ℕ, zero, suc, _+_, _-_, _<_}
+use Prim.Native.Nat.{ℕ, zero, suc, _+_, _-_, _≤_, _<_}
 use mathlib.Core.Path.{_≡_, refl, sym, ap, ap₂, _∙_}
 use mathlib.Core.List.{List, [], _∷_, _++_, map}
-use mathlib.Core.Bool.{Bool, true, false, cond, not, _&&_, _||_, or-true, or-false}
+use mathlib.Core.Bool.{Bool, true, false, cond, not, _&&_, _||_, or-true, or-false, and-false, and-true}
 use native.Mathlib.Numerals.{add-one}
+use native.Mathlib.Nat.{zero-add}
 use native.Mathlib.Omega.{arith}
-use lib.ListN.{length, getD, List·getD-append}
+use lib.ListN.{length, getD, length-append, List·getD-append}
 use lib.Seq.{getD-append-seam}
 use lib.Dec.{eqb, ltb, leb}
-use borrow.Author.Tests.{eq-eqb, ne-eqb, eqb-true, lt-ltb, le-ltb}
+use borrow.Author.Tests.{eq-eqb, ne-eqb, eqb-true, lt-ltb, le-ltb, ltb-true, ltb-false, le-leb, lt-leb}
 use Rattle.lists.specs.Upto.{upto, each}
 use Rattle.lists.specs.Tests.{count, some}
 use Rattle.lists.proofs.Steps.{each-zero, some-next}
 use Rattle.lists.proofs.Tested.{some-pass}
 use Rattle.lists.proofs.Upto.{mem-upto}
 use Rattle.molecule.specs.Bonds.{Bond, on, joins}
-use Rattle.sling.specs.Items.{Target, at, atom, reference, ring}
+use Rattle.sling.specs.Items.{Target, at, Item, atom, reference, ring}
 use Rattle.sling.specs.Reading.{State, placeOf, after, drawn, isH, toH, hydrogensOn, bondsOn}
-use Rattle.sling.specs.Faults.{wrongH, brokenH, heavyAtoms, hydrogenAtoms, heavyBonds, over, itemFault}
-use Rattle.lists.proofs.All.{count-all-none}
+use Rattle.sling.specs.Faults.{wrongH, brokenH, heavyAtoms, hydrogenAtoms, heavyBonds, overAt, over, itemFault}
+use Rattle.lists.proofs.All.{All, map-all, count-all-none}
 use Rattle.lists.proofs.Passed.{count-snoc}
-use Rattle.sling.proofs.Tidy.{Reader}
+use Rattle.sling.proofs.Tidy.{Reader, Proper}
 use Rattle.sling.proofs.Limits.{Room}
+use Rattle.text.specs.declared.tally.Tally.{Tally}
+use Rattle.text.specs.declared.fault.End.{End}
 use Rattle.text.specs.Holding.{bit, hBit, hBond, grownBy, bondedBy}
-use Rattle.text.specs.Judging.{hBroken, overIn, overOn, firstFault}
-use Rattle.text.proofs.StateLaws.{grown-hydrogensOn, grown-bondsOn, grown-heavyBonds}
+use Rattle.text.specs.Judging.{hBroken, overIn, overOn, firstFault, atomFault, ringFault, referenceFault}
+use Rattle.text.proofs.StateLaws.{bit-not, grown-hydrogensOn, grown-bondsOn, grown-heavyBonds}
 
 -- one that passes is one of them
 pub some-pass-below : (n : ℕ) (p : ℕ → Bool) (a : ℕ) → a < n → p a ≡ true → some (each n p) ≡ true
@@ -88,24 +91,6 @@ module _ (g : State) (x m : ℕ) where
         o′,
       )
 
--- the judgements, by the kind at the cursor and the counts there and in all
-abbrev pub atomFault : (m k kc hc dc a t b : ℕ) → ℕ
-atomFault m k kc hc dc a t b =
-    cond (ltb 24 k) 3
-    (cond (hBroken kc k m hc) 7
-    (cond (hBroken k kc m 0) 7
-    (cond (overIn (a + 1 - bit (hBit k)) (t + bit (hBit k)) (b + 1 - bit (hBond kc k))) 4
-    (cond (overOn (hc + bit (hBond kc k)) (dc + 1 - bit (hBond kc k))) 4 0))))
-
-abbrev pub ringFault : (m n p c kc kp hc hp dc dp a t b : ℕ) (pair : Bool) → ℕ
-ringFault m n p c kc kp hc hp dc dp a t b pair =
-    cond (leb n p) 5
-    (cond (hBroken kc kp m hc || hBroken kp kc m hp) 7
-    (cond (eqb c p || pair) 6
-    (cond (overIn a t (b + 1 - bit (hBond kc kp))) 4
-    (cond (overOn (hc + bit (hBond kc kp)) (dc + 1 - bit (hBond kc kp))) 4
-    (cond (overOn (hp + bit (hBond kc kp)) (dp + 1 - bit (hBond kc kp))) 4 0)))))
-
 -- what is added and taken away again
 less : (b : Bool) (x : ℕ) → x + bit (not b) ≡ x + 1 - bit b
 less true x = omega arith
@@ -116,6 +101,21 @@ either true y n r = refl
 either false y n r = refl
 
 module _ (s : State) (r : Reader s) (more : 0 < length (s .kinds)) where
+  -- the rules' state counted
+  abbrev endOf : ℕ → End
+  endOf p = record { kind = getD (s .kinds) p 0; hydrogens = hydrogensOn s p; bonds = bondsOn s p }
+
+  abbrev counts : Tally
+  counts =
+      record {
+        n = length (s .kinds);
+        drawn = length (s .bonds);
+        atoms = heavyAtoms s;
+        total = hydrogenAtoms s;
+        bonds = heavyBonds s;
+        cursor = record { 0 = s .cursor };
+      }
+
   module _ (m k : ℕ) where
     abbrev g : State
     g = grownBy s k
@@ -145,10 +145,10 @@ module _ (s : State) (r : Reader s) (more : 0 < length (s .kinds)) where
     few true = refl
     few false = refl
 
-    pub atom-fault : (kc hc dc a t b : ℕ) → kc ≡ getD (s .kinds) (s .cursor) 0 → hc ≡ hydrogensOn s (s .cursor) → dc ≡ bondsOn s (s .cursor)
-        → a ≡ heavyAtoms s → t ≡ hydrogenAtoms s → b ≡ heavyBonds s → atomFault m k kc hc dc a t b ≡ itemFault s (atom m k)
+    pub atom-fault : (e : End) (t : Tally) → e .kind ≡ getD (s .kinds) (s .cursor) 0 → e .hydrogens ≡ hydrogensOn s (s .cursor) → e .bonds ≡ bondsOn s (s .cursor)
+        → t .atoms ≡ heavyAtoms s → t .total ≡ hydrogenAtoms s → t .bonds ≡ heavyBonds s → atomFault m k e t ≡ itemFault s (atom m k)
     unfolding itemFault
-    atom-fault kc hc dc a t b ek eh ed ea et eb = rw (ek, eh, ed, ea, et, eb) (sym judged)
+    atom-fault e t ek eh ed ea et eb = rw (ek, eh, ed, ea, et, eb) (sym judged)
       where
         c : ℕ
         c = s .cursor
@@ -194,18 +194,19 @@ module _ (s : State) (r : Reader s) (more : 0 < length (s .kinds)) where
             )
             (or-false _)
 
-        judged : itemFault s (atom m k) ≡ atomFault m k j (hydrogensOn s c) (bondsOn s c) (heavyAtoms s) (hydrogenAtoms s) (heavyBonds s)
+        judged : itemFault s (atom m k) ≡ atomFault m k (endOf c) counts
         judged =
             rw (seven, four, ne-eqb n 0 (λ e. omega arith))
             (rw (either (hBroken j k m (hydrogensOn s c)), either (overIn (heavyAtoms s + 1 - bit (hBit k)) (hydrogenAtoms s + bit (hBit k)) (heavyBonds s + 1 - bit h))))
 
   -- a ring bond, and a reference
   module _ (m p : ℕ) where
-    pub ring-fault : (n kc kp hc hp dc dp a t b : ℕ) (pair : Bool) → n ≡ length (s .kinds) → kc ≡ getD (s .kinds) (s .cursor) 0 → kp ≡ getD (s .kinds) p 0
-        → hc ≡ hydrogensOn s (s .cursor) → hp ≡ hydrogensOn s p → dc ≡ bondsOn s (s .cursor) → dp ≡ bondsOn s p → a ≡ heavyAtoms s → t ≡ hydrogenAtoms s → b ≡ heavyBonds s
-        → pair ≡ some (map (joins (s .cursor) p) (s .bonds)) → ringFault m n p (s .cursor) kc kp hc hp dc dp a t b pair ≡ itemFault s (ring m (at p))
+    pub ring-fault : (e f : End) (t : Tally) (pair : Bool) → t .n ≡ length (s .kinds) → t .cursor .0 ≡ s .cursor
+        → e .kind ≡ getD (s .kinds) (s .cursor) 0 → f .kind ≡ getD (s .kinds) p 0 → e .hydrogens ≡ hydrogensOn s (s .cursor) → f .hydrogens ≡ hydrogensOn s p
+        → e .bonds ≡ bondsOn s (s .cursor) → f .bonds ≡ bondsOn s p → t .atoms ≡ heavyAtoms s → t .total ≡ hydrogenAtoms s → t .bonds ≡ heavyBonds s
+        → pair ≡ some (map (joins (s .cursor) p) (s .bonds)) → ringFault m p e f t pair ≡ itemFault s (ring m (at p))
     unfolding itemFault after
-    ring-fault n kc kp hc hp dc dp a t b pair en ek ep eh eq ed ee ea et eb er = rw (en, ek, ep, eh, eq, ed, ee, ea, et, eb, er) (sym judged)
+    ring-fault e f t pair en ec ek ep eh eq ed ee ea et eb er = rw (en, ec, ek, ep, eh, eq, ed, ee, ea, et, eb, er) (sym judged)
       where
         c : ℕ
         c = s .cursor
@@ -233,8 +234,7 @@ module _ (s : State) (r : Reader s) (more : 0 < length (s .kinds)) where
         four = over-is s p m c p (rw (eq-eqb c c refl)) (rw (eq-eqb p p refl, or-true)) ∙ rw (less h (heavyBonds s), less h (bondsOn s c), less h (bondsOn s p))
 
         judged : itemFault s (ring m (at p))
-            ≡ ringFault m (length (s .kinds)) p c j l (hydrogensOn s c) (hydrogensOn s p) (bondsOn s c) (bondsOn s p) (heavyAtoms s) (hydrogenAtoms s) (heavyBonds s)
-            (some (map (joins c p) (s .bonds)))
+            ≡ ringFault m p (endOf c) (endOf p) counts (some (map (joins c p) (s .bonds)))
         judged =
             rw (seven, four, ne-eqb (length (s .kinds)) 0 (λ e. omega arith))
             (rw (
@@ -242,7 +242,7 @@ module _ (s : State) (r : Reader s) (more : 0 < length (s .kinds)) where
               either (overIn (heavyAtoms s) (hydrogenAtoms s) (heavyBonds s + 1 - bit h)),
             ))
 
-  pub reference-fault : Room s → (p : ℕ) → cond (leb (length (s .kinds)) p) 5 0 ≡ itemFault s (reference (at p))
+  pub reference-fault : Room s → (p : ℕ) → referenceFault (length (s .kinds)) p ≡ itemFault s (reference (at p))
   unfolding itemFault after
   reference-fault m p =
       sym (rw (

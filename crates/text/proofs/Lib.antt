@@ -5,6 +5,7 @@ pub mod StateLaws
 pub mod FaultLaws
 pub mod JudgedLaws
 pub mod AfterLaws
+pub mod ChangeLaws
 pub mod ReadLaws
 pub mod FoldLaws
 pub mod LinkLaws

@@ -90,15 +90,6 @@ pub record Drawable (st : State) (p : ℕ) : Type 0 where
   pub few : getD (st .degrees) (st .cursor .0) 0 ≤ 6
   pub few′ : getD (st .degrees) p 0 ≤ 6
 
--- there is an atom, and the counts are within the limits
-pub record Ready (st : State) : Type 0 where
-  pub held : Held st
-  pub from : st .cursor .0 < st .n
-  pub places : st .n ≤ 192
-  pub atoms : st .atoms ≤ 64
-  pub total : st .total ≤ 128
-  pub bonds : st .bonds ≤ 80
-
 -- an item with the code of a mark, and not refused
 pub record Judged (s : rules.State) (i : rule.Item) : Type 0 where
   pub marked : (0 < codeOf i) × (codeOf i ≤ 4)

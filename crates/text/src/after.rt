@@ -1,37 +1,89 @@
 // The state after an item.
-ghost use mathlib.Core.Path.{_≡_};
 ghost use Rattle.sling.specs.Items.{atom};
-ghost use Rattle.sling.specs.Reading.{after};
 ghost use Rattle.text.specs.Scanning.{itemOf};
-ghost use Rattle.text.specs.Holding.{viewOf, Held, Judged};
+ghost use Rattle.text.specs.Changing.{stateOf, Continues, Follows};
 use crate::item::Item;
 use crate::item::Place;
 use crate::state::State;
 use crate::state::bonded;
 use crate::state::grown;
-use crate::state::moved;
 use crate::state::named;
 use crate::state::place_of_number;
+use crate::tally::Tally;
 
-fn with_atom(st: State, code: u8, kind: u8) -> State
-    requires { ⌜ Held st × Judged (viewOf st) (atom code kind) ⌝ }
-    ensures { λ r. ⌜ (viewOf r ≡ after (viewOf st) (atom code kind)) × Held r ⌝ }
+fn with_atom(
+    kinds: &mut [u8; State::PLACES],
+    ups: &mut [u8; State::PLACES],
+    one: &mut [u8; State::BONDS],
+    two: &mut [u8; State::BONDS],
+    codes: &mut [u8; State::BONDS],
+    hydrogens: &mut [u8; State::PLACES],
+    degrees: &mut [u8; State::PLACES],
+    t: Tally,
+    code: u8,
+    kind: u8,
+) -> Tally
+    requires { ⌜ Continues (stateOf (now kinds) (now ups) (now one) (now two) (now codes) (now hydrogens) (now degrees) t) (atom code kind) ⌝ }
+    ensures { λ r. ⌜ Follows (stateOf (now (kinds .entry)) (now (ups .entry)) (now (one .entry)) (now (two .entry)) (now (codes .entry)) (now (hydrogens .entry)) (now (degrees .entry)) t) (atom code kind)
+        (stateOf (now (kinds .exit)) (now (ups .exit)) (now (one .exit)) (now (two .exit)) (now (codes .exit)) (now (hydrogens .exit)) (now (degrees .exit)) r) ⌝ }
 {
-    let n = st.n;
-    let more = grown(st, kind);
+    let n = t.n;
+    let more = grown(kinds, ups, t, kind);
     if n == 0 {
-        return moved(more, Place(0));
+        return more.moved(Place(0));
     }
-    bonded(more, place_of_number(n), code)
+    bonded(
+        kinds,
+        one,
+        two,
+        codes,
+        hydrogens,
+        degrees,
+        more,
+        place_of_number(n),
+        code,
+    )
 }
 
-pub fn after(st: State, item: Item) -> State
-    requires { ⌜ Held st × Judged (viewOf st) (itemOf item) ⌝ }
-    ensures { λ r. ⌜ (viewOf r ≡ after (viewOf st) (itemOf item)) × Held r ⌝ }
+pub fn after(
+    kinds: &mut [u8; State::PLACES],
+    ups: &mut [u8; State::PLACES],
+    one: &mut [u8; State::BONDS],
+    two: &mut [u8; State::BONDS],
+    codes: &mut [u8; State::BONDS],
+    hydrogens: &mut [u8; State::PLACES],
+    degrees: &mut [u8; State::PLACES],
+    t: Tally,
+    item: Item,
+) -> Tally
+    requires { ⌜ Continues (stateOf (now kinds) (now ups) (now one) (now two) (now codes) (now hydrogens) (now degrees) t) (itemOf item) ⌝ }
+    ensures { λ r. ⌜ Follows (stateOf (now (kinds .entry)) (now (ups .entry)) (now (one .entry)) (now (two .entry)) (now (codes .entry)) (now (hydrogens .entry)) (now (degrees .entry)) t) (itemOf item)
+        (stateOf (now (kinds .exit)) (now (ups .exit)) (now (one .exit)) (now (two .exit)) (now (codes .exit)) (now (hydrogens .exit)) (now (degrees .exit)) r) ⌝ }
 {
     match item {
-        Item::Atom { code, kind } => with_atom(st, code, kind),
-        Item::Reference(target) => moved(st, named(st, target)),
-        Item::Ring { code, target } => bonded(st, named(st, target), code),
+        Item::Atom { code, kind } => with_atom(
+            kinds,
+            ups,
+            one,
+            two,
+            codes,
+            hydrogens,
+            degrees,
+            t,
+            code,
+            kind,
+        ),
+        Item::Reference(target) => t.moved(named(ups, t, target)),
+        Item::Ring { code, target } => bonded(
+            kinds,
+            one,
+            two,
+            codes,
+            hydrogens,
+            degrees,
+            t,
+            named(ups, t, target),
+            code,
+        ),
     }
 }

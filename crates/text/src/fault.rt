@@ -1,16 +1,17 @@
 // Judging an item.
 ghost use mathlib.Core.Path.{_≡_};
 ghost use mathlib.Core.Bool.{cond, _&&_, _||_};
-ghost use Prim.Native.Nat.{_≤_, _<_};
+ghost use Prim.Native.Nat.{ℕ, _≤_, _<_};
+ghost use mathlib.Core.List.{List};
 ghost use lib.Dec.{eqb};
 ghost use Rattle.lists.specs.Upto.{each};
 ghost use Rattle.lists.specs.Tests.{some};
 ghost use Rattle.molecule.specs.Bonds.{joins};
-ghost use Rattle.sling.specs.Items.{at, atom, reference, ring};
 ghost use Rattle.sling.specs.Faults.{itemFault};
 ghost use Rattle.text.specs.Scanning.{itemOf};
-ghost use Rattle.text.specs.Holding.{viewOf, Held, Ready};
-ghost use Rattle.text.specs.Judging.{hBroken, overIn, overOn, firstFault, pairIn};
+ghost use Rattle.text.specs.Holding.{viewOf, Held};
+ghost use Rattle.text.specs.Changing.{stateOf};
+ghost use Rattle.text.specs.Judging.{Ready, hBroken, overIn, overOn, firstFault, pairIn, pairedIn, endAt, atomFault, ringFault, referenceFault};
 use crate::item::Item;
 use crate::item::Place;
 use crate::state::State;
@@ -18,7 +19,15 @@ use crate::state::h_bit;
 use crate::state::h_bond;
 use crate::state::named;
 use crate::state::wide;
+use crate::tally::Tally;
 use table::Table;
+
+// An end of a new bond: the kind of the atom there, its hydrogens and its bonds before.
+pub struct End {
+    pub kind: u8,
+    pub hydrogens: u8,
+    pub bonds: u8,
+}
 
 // Whether a new bond breaks the H rule at one of its ends, which has so many hydrogen bonds before.
 fn wrong_h(kind: u8, other: u8, code: u8, bonds: u8) -> bool
@@ -159,16 +168,32 @@ fn first_fault(code: u8, kind: u8) -> u8
     0
 }
 
-fn atom_fault(st: State, code: u8, kind: u8) -> u8
-    requires { ⌜ Ready st ⌝ }
-    ensures { λ r. ⌜ r ≡ itemFault (viewOf st) (atom code kind) ⌝ }
+fn end_at<'a>(
+    kinds: &'a [u8; State::PLACES],
+    hydrogens: &'a [u8; State::PLACES],
+    degrees: &'a [u8; State::PLACES],
+    place: Place,
+) -> End
+    requires { ⌜ place .0 < 192 ⌝ }
+    ensures { λ r. ⌜ r ≡ endAt (now (kinds .entry)) (now (hydrogens .entry)) (now (degrees .entry)) (place .0) ⌝ }
+{
+    let p = place.0 as usize;
+    End {
+        kind: kinds[p],
+        hydrogens: hydrogens[p],
+        bonds: degrees[p],
+    }
+}
+
+fn atom_fault(from: End, t: Tally, code: u8, kind: u8) -> u8
+    requires { ⌜ Ready t ⌝ }
+    ensures { λ r. ⌜ r ≡ atomFault code kind from t ⌝ }
 {
     if 24 < kind {
         return 3;
     }
-    let c = st.cursor.0 as usize;
-    let other = st.kinds[c];
-    if wrong_h(other, kind, code, st.hydrogens[c]) {
+    let other = from.kind;
+    if wrong_h(other, kind, code, from.hydrogens) {
         return 7;
     }
     if wrong_h(kind, other, code, 0) {
@@ -176,79 +201,105 @@ fn atom_fault(st: State, code: u8, kind: u8) -> u8
     }
     let x = wide(h_bit(kind));
     let h = wide(h_bond(other, kind));
-    if over(st.atoms + 1 - x, st.total + x, st.bonds + 1 - h) {
+    if over(t.atoms + 1 - x, t.total + x, t.bonds + 1 - h) {
         return 4;
     }
-    if over_on(wide(st.hydrogens[c]) + h, wide(st.degrees[c]) + 1 - h) {
+    if over_on(wide(from.hydrogens) + h, wide(from.bonds) + 1 - h) {
         return 4;
     }
     0
 }
 
-fn ring_fault(st: State, code: u8, to: Place) -> u8
-    requires { ⌜ Ready st ⌝ }
-    ensures { λ r. ⌜ r ≡ itemFault (viewOf st) (ring code (at (to .0))) ⌝ }
+fn ring_fault<'a>(
+    kinds: &'a [u8; State::PLACES],
+    one: &'a [u8; State::BONDS],
+    two: &'a [u8; State::BONDS],
+    hydrogens: &'a [u8; State::PLACES],
+    degrees: &'a [u8; State::PLACES],
+    t: Tally,
+    code: u8,
+    to: Place,
+) -> u8
+    requires { ⌜ Ready t ⌝ }
+    ensures { λ r. ⌜ r ≡ ringFault code (to .0) (endAt (now (kinds .entry)) (now (hydrogens .entry)) (now (degrees .entry)) (t .cursor .0)) (endAt (now (kinds .entry)) (now (hydrogens .entry)) (now (degrees .entry)) (to .0)) t
+        (pairedIn (now (one .entry)) (now (two .entry)) (t .drawn) (t .cursor .0) (to .0)) ⌝ }
 {
-    let p = to.0 as usize;
-    if st.n <= p {
+    if t.n <= to.0 as usize {
         return 5;
     }
-    let c = st.cursor.0 as usize;
-    let from = st.kinds[c];
-    let other = st.kinds[p];
-    let seven = h_fault(from, other, code, st.hydrogens[c], st.hydrogens[p]);
-    let six = pair_fault(&st.one, &st.two, st.drawn, st.cursor, to);
+    let c = end_at(kinds, hydrogens, degrees, t.cursor);
+    let p = end_at(kinds, hydrogens, degrees, to);
+    let seven = h_fault(c.kind, p.kind, code, c.hydrogens, p.hydrogens);
+    let six = pair_fault(one, two, t.drawn, t.cursor, to);
     let fault = first_of(seven, six);
     if fault != 0 {
         return fault;
     }
-    let h = wide(h_bond(from, other));
-    if over(st.atoms, st.total, st.bonds + 1 - h) {
+    let h = wide(h_bond(c.kind, p.kind));
+    if over(t.atoms, t.total, t.bonds + 1 - h) {
         return 4;
     }
-    if over_on(wide(st.hydrogens[c]) + h, wide(st.degrees[c]) + 1 - h) {
+    if over_on(wide(c.hydrogens) + h, wide(c.bonds) + 1 - h) {
         return 4;
     }
-    if over_on(wide(st.hydrogens[p]) + h, wide(st.degrees[p]) + 1 - h) {
+    if over_on(wide(p.hydrogens) + h, wide(p.bonds) + 1 - h) {
         return 4;
     }
     0
 }
 
-fn reference_fault(st: State, to: Place) -> u8
-    requires { ⌜ Ready st ⌝ }
-    ensures { λ r. ⌜ r ≡ itemFault (viewOf st) (reference (at (to .0))) ⌝ }
+fn reference_fault(places: usize, to: Place) -> u8
+    ensures { λ r. ⌜ r ≡ referenceFault places (to .0) ⌝ }
 {
-    if st.n <= to.0 as usize {
+    if places <= to.0 as usize {
         return 5;
     }
     0
 }
 
-// The refusal that an item deserves, 0 for none.
-pub fn item_fault(st: State, item: Item) -> u8
-    requires { ⌜ Held st ⌝ }
-    ensures { λ r. ⌜ r ≡ itemFault (viewOf st) (itemOf item) ⌝ }
+// The refusal that an item deserves, 0 for none. The codes of the bonds drawn are not looked at.
+pub fn item_fault<'a>(
+    kinds: &'a [u8; State::PLACES],
+    ups: &'a [u8; State::PLACES],
+    one: &'a [u8; State::BONDS],
+    two: &'a [u8; State::BONDS],
+    hydrogens: &'a [u8; State::PLACES],
+    degrees: &'a [u8; State::PLACES],
+    t: Tally,
+    item: Item,
+) -> u8
+    requires { ⌜ ((codes : List ℕ) × Held (stateOf (now kinds) (now ups) (now one) (now two) codes (now hydrogens) (now degrees) t)) ⌝ }
+    ensures { λ r. ⌜ ((codes : List ℕ) → Held (stateOf (now (kinds .entry)) (now (ups .entry)) (now (one .entry)) (now (two .entry)) codes (now (hydrogens .entry)) (now (degrees .entry)) t)
+        → r ≡ itemFault (viewOf (stateOf (now (kinds .entry)) (now (ups .entry)) (now (one .entry)) (now (two .entry)) codes (now (hydrogens .entry)) (now (degrees .entry)) t)) (itemOf item)) ⌝ }
 {
-    let n = st.n;
+    let n = t.n;
     match item {
         Item::Atom { code, kind } => {
             if n == 0 {
                 return first_fault(code, kind);
             }
-            atom_fault(st, code, kind)
+            atom_fault(end_at(kinds, hydrogens, degrees, t.cursor), t, code, kind)
         }
         Item::Reference(target) => {
             if n == 0 {
                 return 2;
             }
-            reference_fault(st, named(st, target))
+            reference_fault(n, named(ups, t, target))
         }
         Item::Ring { code, target } => {
             if n == 0 {
                 return 2;
             }
-            ring_fault(st, code, named(st, target))
+            ring_fault(
+                kinds,
+                one,
+                two,
+                hydrogens,
+                degrees,
+                t,
+                code,
+                named(ups, t, target),
+            )
         }
     }
 }

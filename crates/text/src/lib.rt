@@ -13,6 +13,7 @@ mod number;
 mod read;
 mod scan;
 mod state;
+mod tally;
 mod target;
 
 // A refusal with its place, an offset in the text; or refusal 0 and place 0 with the length of the card.

@@ -1,11 +1,15 @@
 // What a reader has of a text so far.
 ghost use mathlib.Core.Path.{_≡_};
-ghost use Prim.Native.Nat.{_≤_, _<_};
+ghost use Prim.Native.Nat.{_-_, _≤_, _<_};
+ghost use lib.ListN.{set};
+ghost use Rattle.sling.specs.Reading as rules;
 ghost use Rattle.sling.specs.Reading.{start, climb, placeOf};
 ghost use Rattle.text.specs.Scanning.{targetOf};
-ghost use Rattle.text.specs.Holding.{viewOf, Tallied, Held, Bit, grownBy, bondedBy, movedTo, Drawable, hBit, hBond};
+ghost use Rattle.text.specs.Holding.{viewOf, Held, Bit, hBit, hBond};
+ghost use Rattle.text.specs.Changing.{stateOf, grownTally, bondedTally, hBetween, raisedAt, Raisable, Growable, Bondable, Climbable, Attached};
 use crate::item::Place;
 use crate::item::Target;
+use crate::tally::Tally;
 use table::Table;
 
 // By place, each atom's kind and the place at which it was attached; the bonds drawn, between places; the cursor. What the limits count
@@ -92,78 +96,127 @@ pub fn h_bond(one: u8, other: u8) -> u8
     h_bit(other)
 }
 
-// So many steps up from the cursor; too many lead to the place that is not there yet.
-fn climbed(st: State, steps: u16) -> Place
-    requires { ⌜ Tallied st × (st .cursor .0 < st .n) ⌝ }
-    ensures { λ r. ⌜ (r .0) ≡ climb (viewOf st) steps (st .cursor .0) ⌝ }
+// A state put together from its arrays and its tally.
+pub fn state_of<'a>(
+    kinds: &'a [u8; State::PLACES],
+    ups: &'a [u8; State::PLACES],
+    one: &'a [u8; State::BONDS],
+    two: &'a [u8; State::BONDS],
+    code: &'a [u8; State::BONDS],
+    hydrogens: &'a [u8; State::PLACES],
+    degrees: &'a [u8; State::PLACES],
+    t: Tally,
+) -> State
+    ensures { λ r. ⌜ r ≡ stateOf (now (kinds .entry)) (now (ups .entry)) (now (one .entry)) (now (two .entry)) (now (code .entry)) (now (hydrogens .entry)) (now (degrees .entry)) t ⌝ }
 {
-    let mut p = st.cursor.0 as usize;
+    let cursor = t.cursor;
+    State {
+        kinds: *kinds,
+        ups: *ups,
+        one: *one,
+        two: *two,
+        code: *code,
+        hydrogens: *hydrogens,
+        degrees: *degrees,
+        n: t.n,
+        drawn: t.drawn,
+        atoms: t.atoms,
+        total: t.total,
+        bonds: t.bonds,
+        cursor,
+    }
+}
+
+// So many steps up from the cursor; too many lead to the place that is not there yet.
+fn climbed(ups: &[u8; State::PLACES], t: Tally, steps: u16) -> Place
+    requires { ⌜ Climbable (now ups) t ⌝ }
+    ensures { λ r. ⌜ ((s : rules.State) → Attached s (now (ups .entry)) t → (r .0) ≡ climb s steps (t .cursor .0)) ⌝ }
+{
+    let mut p = t.cursor.0 as usize;
     let mut k = steps;
     while 0 < k {
         if p == 0 {
-            return place_of_number(st.n);
+            return place_of_number(t.n);
         }
-        p = wide(st.ups[p]);
+        p = wide(ups[p]);
         k -= 1;
     }
     place_of_number(p)
 }
 
 // The place that a target names.
-pub fn named(st: State, target: Target) -> Place
-    requires { ⌜ Tallied st × (st .cursor .0 < st .n) ⌝ }
-    ensures { λ r. ⌜ (r .0) ≡ placeOf (viewOf st) (targetOf target) ⌝ }
+pub fn named(ups: &[u8; State::PLACES], t: Tally, target: Target) -> Place
+    requires { ⌜ Climbable (now ups) t ⌝ }
+    ensures { λ r. ⌜ ((s : rules.State) → Attached s (now (ups .entry)) t → (r .0) ≡ placeOf s (targetOf target)) ⌝ }
 {
     match target {
         Target::At(place) => place,
-        Target::Up(steps) => climbed(st, steps),
+        Target::Up(steps) => climbed(ups, t, steps),
     }
 }
 
 // An atom more, attached at the cursor.
-pub fn grown(st: State, kind: u8) -> State
-    requires { ⌜ Held st × (st .n < 192) ⌝ }
-    ensures { λ r. ⌜ (viewOf r ≡ grownBy (viewOf st) kind) × Tallied r ⌝ }
+pub fn grown(
+    kinds: &mut [u8; State::PLACES],
+    ups: &mut [u8; State::PLACES],
+    t: Tally,
+    kind: u8,
+) -> Tally
+    requires { ⌜ Growable t ⌝ }
+    ensures { λ r. ⌜ (now (kinds .exit) ≡ set (now (kinds .entry)) (t .n) kind) × (now (ups .exit) ≡ set (now (ups .entry)) (t .n) (t .cursor .0)) × (r ≡ grownTally t kind) ⌝ }
 {
-    let mut next = st;
+    let mut next = t;
     let n = next.n;
     let h = wide(h_bit(kind));
-    next.kinds[n] = kind;
-    next.ups[n] = narrow(next.cursor.0 as usize);
+    kinds[n] = kind;
+    ups[n] = narrow(next.cursor.0 as usize);
     next.n = n + 1;
     next.atoms = next.atoms + 1 - h;
     next.total = next.total + h;
     next
 }
 
-// The cursor moves, with no bond.
-pub fn moved(st: State, place: Place) -> State
-    requires { ⌜ Tallied st × (place .0 ≤ st .n) ⌝ }
-    ensures { λ r. ⌜ (viewOf r ≡ movedTo (viewOf st) (place .0)) × Tallied r ⌝ }
+// The counts at both ends of a new bond raised.
+fn raise(counts: &mut [u8; State::PLACES], from: Place, to: Place, by: u8)
+    requires { ⌜ Raisable (now counts) (from .0) (to .0) × (by ≤ 1) ⌝ }
+    ensures { λ _. ⌜ now (counts .exit) ≡ raisedAt (now (counts .entry)) (from .0) (to .0) by ⌝ }
 {
-    let mut next = st;
-    next.cursor = place;
-    next
+    let c = from.0 as usize;
+    let p = to.0 as usize;
+    counts[c] = counts[c] + by;
+    counts[p] = counts[p] + by;
 }
 
 // A bond drawn from the cursor, which moves along it.
-pub fn bonded(st: State, to: Place, code: u8) -> State
-    requires { ⌜ Tallied st × Drawable st (to .0) ⌝ }
-    ensures { λ r. ⌜ (viewOf r ≡ bondedBy (viewOf st) (to .0) code) × Tallied r ⌝ }
+pub fn bonded<'a>(
+    kinds: &'a [u8; State::PLACES],
+    one: &mut [u8; State::BONDS],
+    two: &mut [u8; State::BONDS],
+    codes: &mut [u8; State::BONDS],
+    hydrogens: &mut [u8; State::PLACES],
+    degrees: &mut [u8; State::PLACES],
+    t: Tally,
+    to: Place,
+    code: u8,
+) -> Tally
+    requires { ⌜ Bondable (now hydrogens) (now degrees) t (to .0) ⌝ }
+    ensures { λ r. ⌜ (now (one .exit) ≡ set (now (one .entry)) (t .drawn) (t .cursor .0)) × (now (two .exit) ≡ set (now (two .entry)) (t .drawn) (to .0)) × (now (codes .exit) ≡ set (now (codes .entry)) (t .drawn) code)
+        × (now (hydrogens .exit) ≡ raisedAt (now (hydrogens .entry)) (t .cursor .0) (to .0) (hBetween (now (kinds .entry)) (t .cursor .0) (to .0)))
+        × (now (degrees .exit) ≡ raisedAt (now (degrees .entry)) (t .cursor .0) (to .0) (1 - hBetween (now (kinds .entry)) (t .cursor .0) (to .0)))
+        × (r ≡ bondedTally t to (hBetween (now (kinds .entry)) (t .cursor .0) (to .0))) ⌝ }
 {
-    let mut next = st;
-    let c = next.cursor.0 as usize;
+    let from = t.cursor;
+    let c = from.0 as usize;
     let p = to.0 as usize;
-    let m = next.drawn;
-    let h = h_bond(next.kinds[c], next.kinds[p]);
-    next.one[m] = narrow(c);
-    next.two[m] = narrow(p);
-    next.code[m] = code;
+    let m = t.drawn;
+    let h = h_bond(kinds[c], kinds[p]);
+    one[m] = narrow(c);
+    two[m] = narrow(p);
+    codes[m] = code;
+    raise(hydrogens, from, to, h);
+    raise(degrees, from, to, 1 - h);
+    let mut next = t;
     next.drawn = m + 1;
-    next.hydrogens[c] = next.hydrogens[c] + h;
-    next.hydrogens[p] = next.hydrogens[p] + h;
-    next.degrees[c] = next.degrees[c] + (1 - h);
-    next.degrees[p] = next.degrees[p] + (1 - h);
     next.bonds = next.bonds + wide(1 - h);
     next.cursor = to;
     next

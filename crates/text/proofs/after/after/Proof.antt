@@ -1,91 +1,85 @@
--- The change of each kind of item, carried over to the item that was matched.
-use Prim.Native.Nat.{ℕ}
+-- Each item changes the arrays as its own law says.
 use mathlib.Core.Path.{_∙_, sym, ap, subst}
-use Rattle.sling.specs.Reading as rules
 use Rattle.sling.specs.Reading.{after}
 use Rattle.text.specs.declared.item.Item.{Item}
+use Rattle.text.specs.declared.state.State.{State}
 use Rattle.text.specs.Scanning.{itemOf}
-use Rattle.text.specs.Holding.{viewOf, movedTo, bondedBy, Judged}
-use Rattle.text.proofs.JudgedLaws.{ready}
-use Rattle.text.proofs.AfterLaws.{held-by, reference-there, reference-after, ring-some, ring-after, ring-drawable}
+use Rattle.text.specs.Holding.{viewOf}
+use Rattle.text.specs.Changing.{stateOf, Continues}
+use Rattle.text.proofs.AfterLaws.{reference-there, ring-some}
+use Rattle.text.proofs.ChangeLaws.{view-attached, climbable, ring-bondable, ring-follows, reference-follows}
 use borrow.Author.Needs.{needs}
 use Rattle.text.proofs.after.after.Statement.{statement}
 use Rattle.text.proofs.after.after.Tie as tie
-use Rattle.text.proofs.after.after.Reads as reads
-use Rattle.text.proofs.after.after.Lts as lts
-use Rattle.text.proofs.after.with_atom.Reads as with-atom-reads
-use Rattle.text.proofs.state.bonded.Reads as bonded-reads
-use Rattle.text.proofs.state.moved.Reads as moved-reads
-use Rattle.text.proofs.state.named.Reads as named-reads
 
--- src/after.rt:27:22
 enum-known-item : tie.Need-enum-known-item
 enum-known-item c = search needs
 
--- src/after.rt:27:38
 with-atom-requires : tie.Need-with-atom-requires
 with-atom-requires c κs =
-    let st = c .before .before .before .args .st in
-    (c .before .before .before .pre .0, subst (λ (i : Item). Judged (viewOf st) (itemOf i)) (c .before .item .given .1) (c .before .before .before .pre .1))
+    let s = c .before .before .before .before .before .before .before .before .before .before in
+    let a = s .args in
+    let st : State = stateOf (a .kinds .now) (a .ups .now) (a .one .now) (a .two .now) (a .codes .now) (a .hydrogens .now) (a .degrees .now) (a .t) in
+    subst (λ (i : Item). Continues st (itemOf i)) (c .before .before .before .before .before .before .before .before .item .given .1) (s .pre)
 
--- src/after.rt:28:25
 enum-known-item-2 : tie.Need-enum-known-item-2
 enum-known-item-2 c = search needs
 
--- src/after.rt:28:46
 named-requires : tie.Need-named-requires
 named-requires c κs =
-    let st = c .before .before .before .args .st in
-    let J = subst (λ (i : Item). Judged (viewOf st) (itemOf i)) (c .before .item2 .given .1) (c .before .before .before .pre .1) in
-    (c .before .before .before .pre .0 .tallied, ready st (c .before .before .before .pre .0) (reference-there st (c .before .before .before .pre .0) _ J .0) .from)
+    let s = c .before .before .before .before in
+    let a = s .args in
+    let st : State = stateOf (a .kinds .now) (a .ups .now) (a .one .now) (a .two .now) (a .codes .now) (a .hydrogens .now) (a .degrees .now) (a .t) in
+    let C = subst (λ (i : Item). Continues st (itemOf i)) (c .before .before .item2 .given .1) (s .pre) in
+    climbable (a .kinds .now) (a .ups .now) (a .one .now) (a .two .now) (a .codes .now) (a .hydrogens .now) (a .degrees .now) (a .t) (C .held) (reference-there st (C .held) _ (C .judged) .0)
 
--- src/after.rt:28:36
 moved-requires : tie.Need-moved-requires
-moved-requires c κs =
-    let st = c .before .before .before .before .args .st in
-    let J = subst (λ (i : Item). Judged (viewOf st) (itemOf i)) (c .before .before .item2 .given .1) (c .before .before .before .before .pre .1) in
-    (c .before .before .before .before .pre .0 .tallied, rw (c .named .ensures) (reference-there st (c .before .before .before .before .pre .0) _ J .1))
+moved-requires c κs = search needs
 
--- src/after.rt:29:22
 enum-known-item-3 : tie.Need-enum-known-item-3
 enum-known-item-3 c = search needs
 
--- src/after.rt:29:51
 named-requires-2 : tie.Need-named-requires-2
 named-requires-2 c κs =
-    let st = c .before .before .before .args .st in
-    let J = subst (λ (i : Item). Judged (viewOf st) (itemOf i)) (c .before .item3 .given .1) (c .before .before .before .pre .1) in
-    (c .before .before .before .pre .0 .tallied, ready st (c .before .before .before .pre .0) (ring-some st (c .before .before .before .pre .0) _ _ J) .from)
+    let s = c .before .before .before .before .before .before .before .before .before .before in
+    let a = s .args in
+    let st : State = stateOf (a .kinds .now) (a .ups .now) (a .one .now) (a .two .now) (a .codes .now) (a .hydrogens .now) (a .degrees .now) (a .t) in
+    let C = subst (λ (i : Item). Continues st (itemOf i)) (c .before .before .before .before .before .before .before .before .item3 .given .1) (s .pre) in
+    climbable (a .kinds .now) (a .ups .now) (a .one .now) (a .two .now) (a .codes .now) (a .hydrogens .now) (a .degrees .now) (a .t) (C .held) (ring-some st (C .held) _ _ (C .judged))
 
--- src/after.rt:29:40
 bonded-requires : tie.Need-bonded-requires
 bonded-requires c κs =
-    let st = c .before .before .before .before .args .st in
-    let J = subst (λ (i : Item). Judged (viewOf st) (itemOf i)) (c .before .before .item3 .given .1) (c .before .before .before .before .pre .1) in
-    (c .before .before .before .before .pre .0 .tallied, ring-drawable st (c .before .before .before .before .pre .0) _ _ J _ (c .named2 .ensures))
+    let s = c .before .before .before .before .before .before .before .before .before .before .before in
+    let a = s .args in
+    let st : State = stateOf (a .kinds .now) (a .ups .now) (a .one .now) (a .two .now) (a .codes .now) (a .hydrogens .now) (a .degrees .now) (a .t) in
+    let C = subst (λ (i : Item). Continues st (itemOf i)) (c .before .before .before .before .before .before .before .before .before .item3 .given .1) (s .pre) in
+    ring-bondable (a .kinds .now) (a .ups .now) (a .one .now) (a .two .now) (a .codes .now) (a .hydrogens .now) (a .degrees .now) (a .t) _ _ C _ (c .named2 .ensures (viewOf st) (view-attached (a .kinds .now) (a .ups .now) (a .one .now) (a .two .now) (a .codes .now) (a .hydrogens .now) (a .degrees .now) (a .t) (C .held .tallied)))
 
--- src/after.rt:22:1
 returns : tie.Need-returns
 returns c =
-    let st = c .before .before .before .before .args .st in
-    (c .with-atom .ensures .0 ∙ ap (λ (i : Item). after (viewOf st) (itemOf i)) (sym (c .before .before .item .given .1)), c .with-atom .ensures .1)
+    let s = c .before .before .before .before .before .before .before .before .before .before .before in
+    let a = s .args in
+    let st : State = stateOf (a .kinds .now) (a .ups .now) (a .one .now) (a .two .now) (a .codes .now) (a .hydrogens .now) (a .degrees .now) (a .t) in
+    let F = c .with-atom .ensures in
+    record { is = F .is ∙ ap (λ (i : Item). after (viewOf st) (itemOf i)) (sym (c .before .before .before .before .before .before .before .before .before .item .given .1)); held = F .held }
 
--- src/after.rt:22:1
 returns-2 : tie.Need-returns-2
 returns-2 c =
-    let st = c .before .before .before .before .before .args .st in
-    let e = c .moved .ensures .0 ∙ ap (movedTo (viewOf st)) (c .before .named .ensures) ∙ reference-after st (c .before .before .before .before .before .pre .0) _
-    ∙ ap (λ (i : Item). after (viewOf st) (itemOf i)) (sym (c .before .before .before .item2 .given .1)) in
-    (e, held-by _ _ _ (c .moved .ensures .1) e (c .before .before .before .before .before .pre .0 .reached) (c .before .before .before .before .before .pre .1))
+    let s = c .before .before .before .before .before .before in
+    let a = s .args in
+    let st : State = stateOf (a .kinds .now) (a .ups .now) (a .one .now) (a .two .now) (a .codes .now) (a .hydrogens .now) (a .degrees .now) (a .t) in
+    let C = subst (λ (i : Item). Continues st (itemOf i)) (c .before .before .before .before .item2 .given .1) (s .pre) in
+    let F = reference-follows (a .kinds .now) (a .ups .now) (a .one .now) (a .two .now) (a .codes .now) (a .hydrogens .now) (a .degrees .now) (a .t) _ C _ (c .before .named .ensures (viewOf st) (view-attached (a .kinds .now) (a .ups .now) (a .one .now) (a .two .now) (a .codes .now) (a .hydrogens .now) (a .degrees .now) (a .t) (C .held .tallied))) _ (c .moved .ensures) in
+    record { is = F .is ∙ ap (λ (i : Item). after (viewOf st) (itemOf i)) (sym (c .before .before .before .before .item2 .given .1)); held = F .held }
 
--- src/after.rt:22:1
 returns-3 : tie.Need-returns-3
 returns-3 c =
-    let st = c .before .before .before .before .before .args .st in
-    let J = subst (λ (i : Item). Judged (viewOf st) (itemOf i)) (c .before .before .before .item3 .given .1) (c .before .before .before .before .before .pre .1) in
-    let e = c .bonded .ensures .0 ∙ ap (λ (p : ℕ). bondedBy (viewOf st) p (c .before .before .before .item3 .given .0 .0)) (c .before .named2 .ensures) ∙ ring-after st (c .before .before .before .before .before .pre .0) _ _ J
-    ∙ ap (λ (i : Item). after (viewOf st) (itemOf i)) (sym (c .before .before .before .item3 .given .1)) in
-    (e, held-by _ _ _ (c .bonded .ensures .1) e (c .before .before .before .before .before .pre .0 .reached) (c .before .before .before .before .before .pre .1))
+    let s = c .before .before .before .before .before .before .before .before .before .before .before .before in
+    let a = s .args in
+    let st : State = stateOf (a .kinds .now) (a .ups .now) (a .one .now) (a .two .now) (a .codes .now) (a .hydrogens .now) (a .degrees .now) (a .t) in
+    let C = subst (λ (i : Item). Continues st (itemOf i)) (c .before .before .before .before .before .before .before .before .before .before .item3 .given .1) (s .pre) in
+    let F = ring-follows (a .kinds .now) (a .ups .now) (a .one .now) (a .two .now) (a .codes .now) (a .hydrogens .now) (a .degrees .now) (a .t) _ _ _ _ _ _ _ _ (c .bonded .ensures) _ C (c .before .named2 .ensures (viewOf st) (view-attached (a .kinds .now) (a .ups .now) (a .one .now) (a .two .now) (a .codes .now) (a .hydrogens .now) (a .degrees .now) (a .t) (C .held .tallied))) in
+    record { is = F .is ∙ ap (λ (i : Item). after (viewOf st) (itemOf i)) (sym (c .before .before .before .before .before .before .before .before .before .before .item3 .given .1)); held = F .held }
 
 pub after-spec : {M : Type 1} → statement M
 after-spec =

@@ -1,105 +1,96 @@
--- The judgement of each kind of item, carried over to the item that was matched.
+-- The judgement by the counts is the rules' judgement, whatever the codes of the bonds drawn are.
 use Prim.Native.Nat.{ℕ}
 use mathlib.Core.Path.{_∙_, sym, ap}
-use Rattle.sling.specs.Items.{at, reference, ring}
+use native.Mathlib.Omega.{arith}
+use Rattle.sling.specs.Items.{at, ring}
 use Rattle.sling.specs.Faults.{itemFault}
 use Rattle.text.specs.declared.item.Item.{Item}
+use Rattle.text.specs.declared.state.State.{State}
+use Rattle.text.specs.declared.fault.End.{End}
 use Rattle.text.specs.Scanning.{itemOf}
 use Rattle.text.specs.Holding.{viewOf}
+use Rattle.text.specs.Changing.{stateOf}
+use Rattle.text.specs.Judging.{atomFault, referenceFault}
 use Rattle.text.proofs.StateLaws.{view-places}
 use Rattle.text.proofs.FaultLaws.{first-fault, first-reference, first-ring, ring-named, reference-named}
-use Rattle.text.proofs.JudgedLaws.{ready}
+use Rattle.text.proofs.JudgedLaws.{ready, atom-judged, ring-judged, reference-judged}
+use Rattle.text.proofs.ChangeLaws.{view-attached, climbable}
 use borrow.Author.Needs.{needs}
 use Rattle.text.proofs.fault.item_fault.Statement.{statement}
 use Rattle.text.proofs.fault.item_fault.Tie as tie
-use Rattle.text.proofs.fault.item_fault.Reads as reads
-use Rattle.text.proofs.fault.item_fault.Lts as lts
-use Rattle.text.proofs.fault.atom_fault.Reads as atom-fault-reads
-use Rattle.text.proofs.fault.first_fault.Reads as first-fault-reads
-use Rattle.text.proofs.fault.reference_fault.Reads as reference-fault-reads
-use Rattle.text.proofs.fault.ring_fault.Reads as ring-fault-reads
-use Rattle.text.proofs.state.named.Reads as named-reads
 
--- src/fault.rt:193:22
 enum-known-item : tie.Need-enum-known-item
 enum-known-item c = search needs
 
--- src/fault.rt:195:17
 first-fault-requires : tie.Need-first-fault-requires
 first-fault-requires c κs = search needs
 
--- src/fault.rt:195:17
 returns : tie.Need-returns
 returns c =
-    let st = c .before .before .before .before .before .args .st in
-    c .first-fault .ensures ∙ first-fault (viewOf st) (view-places st (c .before .before .before .before .before .pre .tallied) ∙ c .before .if1 .taken) _ _
-    ∙ ap (λ (i : Item). itemFault (viewOf st) (itemOf i)) (sym (c .before .before .before .item .given .1))
+    λ m H. let a = c .before .before .before .before .before .args in
+    let st : State = stateOf (a .kinds .now) (a .ups .now) (a .one .now) (a .two .now) m (a .hydrogens .now) (a .degrees .now) (a .t) in
+    c .first-fault .ensures ∙ first-fault (viewOf st) (view-places st (H .tallied) ∙ c .before .if1 .taken) _ _ ∙ ap (λ (i : Item). itemFault (viewOf st) (itemOf i)) (sym (c .before .before .before .item .given .1))
 
--- src/fault.rt:197:13
+end-at-requires : tie.Need-end-at-requires
+end-at-requires c κs = let s = c .before .before .before .before in let r = ready _ (s .pre .1) (c .if1 .left) in omega (arith, r .from, r .places)
+
 atom-fault-requires : tie.Need-atom-fault-requires
-atom-fault-requires c κs = ready _ (c .before .before .before .before .pre) (c .if1 .left)
+atom-fault-requires c κs = ready _ (c .before .before .before .before .before .pre .1) (c .before .if1 .left)
 
--- src/fault.rt:199:25
 enum-known-item-2 : tie.Need-enum-known-item-2
 enum-known-item-2 c = search needs
 
--- src/fault.rt:201:17
 returns-2 : tie.Need-returns-2
 returns-2 c =
-    let st = c .before .before .before .before .args .st in
-    first-reference (viewOf st) (view-places st (c .before .before .before .before .pre .tallied) ∙ c .if2 .taken) _
-    ∙ ap (λ (i : Item). itemFault (viewOf st) (itemOf i)) (sym (c .before .before .item2 .given .1))
+    λ m H. let a = c .before .before .before .before .args in
+    let st : State = stateOf (a .kinds .now) (a .ups .now) (a .one .now) (a .two .now) m (a .hydrogens .now) (a .degrees .now) (a .t) in
+    first-reference (viewOf st) (view-places st (H .tallied) ∙ c .if2 .taken) _ ∙ ap (λ (i : Item). itemFault (viewOf st) (itemOf i)) (sym (c .before .before .item2 .given .1))
 
--- src/fault.rt:203:33
 named-requires : tie.Need-named-requires
-named-requires c κs = (c .before .before .before .before .pre .tallied, ready _ (c .before .before .before .before .pre) (c .if2 .left) .from)
+named-requires c κs = let s = c .before .before .before .before in let a = s .args in climbable (a .kinds .now) (a .ups .now) (a .one .now) (a .two .now) (s .pre .0) (a .hydrogens .now) (a .degrees .now) (a .t) (s .pre .1) (c .if2 .left)
 
--- src/fault.rt:203:13
 reference-fault-requires : tie.Need-reference-fault-requires
-reference-fault-requires c κs = ready _ (c .before .before .before .before .before .pre) (c .before .if2 .left)
+reference-fault-requires c κs = search needs
 
--- src/fault.rt:205:22
 enum-known-item-3 : tie.Need-enum-known-item-3
 enum-known-item-3 c = search needs
 
--- src/fault.rt:207:17
 returns-3 : tie.Need-returns-3
 returns-3 c =
-    let st = c .before .before .before .before .args .st in
-    first-ring (viewOf st) (view-places st (c .before .before .before .before .pre .tallied) ∙ c .if3 .taken) _ _
-    ∙ ap (λ (i : Item). itemFault (viewOf st) (itemOf i)) (sym (c .before .before .item3 .given .1))
+    λ m H. let a = c .before .before .before .before .args in
+    let st : State = stateOf (a .kinds .now) (a .ups .now) (a .one .now) (a .two .now) m (a .hydrogens .now) (a .degrees .now) (a .t) in
+    first-ring (viewOf st) (view-places st (H .tallied) ∙ c .if3 .taken) _ _ ∙ ap (λ (i : Item). itemFault (viewOf st) (itemOf i)) (sym (c .before .before .item3 .given .1))
 
--- src/fault.rt:209:34
 named-requires-2 : tie.Need-named-requires-2
-named-requires-2 c κs = (c .before .before .before .before .pre .tallied, ready _ (c .before .before .before .before .pre) (c .if3 .left) .from)
+named-requires-2 c κs = let s = c .before .before .before .before in let a = s .args in climbable (a .kinds .now) (a .ups .now) (a .one .now) (a .two .now) (s .pre .0) (a .hydrogens .now) (a .degrees .now) (a .t) (s .pre .1) (c .if3 .left)
 
--- src/fault.rt:209:13
 ring-fault-requires : tie.Need-ring-fault-requires
-ring-fault-requires c κs = ready _ (c .before .before .before .before .before .pre) (c .before .if3 .left)
+ring-fault-requires c κs = ready _ (c .before .before .before .before .before .pre .1) (c .before .if3 .left)
 
--- src/fault.rt:187:1
 returns-4 : tie.Need-returns-4
 returns-4 c =
-    let st = c .before .before .before .before .before .args .st in
-    c .atom-fault .ensures ∙ ap (λ (i : Item). itemFault (viewOf st) (itemOf i)) (sym (c .before .before .before .item .given .1))
+    λ m H. let a = c .before .before .before .before .before .before .args in
+    let st : State = stateOf (a .kinds .now) (a .ups .now) (a .one .now) (a .two .now) m (a .hydrogens .now) (a .degrees .now) (a .t) in
+    let g = c .before .before .before .before .item .given .0 in
+    c .atom-fault .ensures ∙ ap (λ (e : End). atomFault (g .0) (g .1 .0) e (a .t)) (c .before .end-at .ensures) ∙ atom-judged st H (c .before .before .if1 .left) (g .0) (g .1 .0)
+    ∙ ap (λ (i : Item). itemFault (viewOf st) (itemOf i)) (sym (c .before .before .before .before .item .given .1))
 
--- src/fault.rt:187:1
 returns-5 : tie.Need-returns-5
 returns-5 c =
-    let st = c .before .before .before .before .before .before .args .st in
-    c .reference-fault .ensures
-    ∙ ap (λ (p : ℕ). itemFault (viewOf st) (reference (at p))) (c .before .named .ensures)
-    ∙ reference-named (viewOf st) _
+    λ m H. let a = c .before .before .before .before .before .before .args in
+    let st : State = stateOf (a .kinds .now) (a .ups .now) (a .one .now) (a .two .now) m (a .hydrogens .now) (a .degrees .now) (a .t) in
+    let p = c .before .named .ensures (viewOf st) (view-attached (a .kinds .now) (a .ups .now) (a .one .now) (a .two .now) m (a .hydrogens .now) (a .degrees .now) (a .t) (H .tallied)) in
+    c .reference-fault .ensures ∙ ap (referenceFault (a .t .n)) p ∙ reference-judged st H (c .before .before .if2 .left) _ ∙ reference-named (viewOf st) _
     ∙ ap (λ (i : Item). itemFault (viewOf st) (itemOf i)) (sym (c .before .before .before .before .item2 .given .1))
 
--- src/fault.rt:187:1
 returns-6 : tie.Need-returns-6
 returns-6 c =
-    let st = c .before .before .before .before .before .before .args .st in
-    c .ring-fault .ensures
-    ∙ ap (λ (p : ℕ). itemFault (viewOf st) (ring (c .before .before .before .before .item3 .given .0 .0) (at p))) (c .before .named2 .ensures)
-    ∙ ring-named (viewOf st) _ _
-    ∙ ap (λ (i : Item). itemFault (viewOf st) (itemOf i)) (sym (c .before .before .before .before .item3 .given .1))
+    λ m H. let a = c .before .before .before .before .before .before .args in
+    let st : State = stateOf (a .kinds .now) (a .ups .now) (a .one .now) (a .two .now) m (a .hydrogens .now) (a .degrees .now) (a .t) in
+    let p = c .before .named2 .ensures (viewOf st) (view-attached (a .kinds .now) (a .ups .now) (a .one .now) (a .two .now) m (a .hydrogens .now) (a .degrees .now) (a .t) (H .tallied)) in
+    let code = c .before .before .before .before .item3 .given .0 .0 in
+    c .ring-fault .ensures ∙ ring-judged st H (c .before .before .if3 .left) code (c .before .named2 .result .0)
+    ∙ ap (λ (x : ℕ). itemFault (viewOf st) (ring code (at x))) p ∙ ring-named (viewOf st) _ _ ∙ ap (λ (i : Item). itemFault (viewOf st) (itemOf i)) (sym (c .before .before .before .before .item3 .given .1))
 
 pub item-fault-spec : {M : Type 1} → statement M
 item-fault-spec =
@@ -108,6 +99,7 @@ item-fault-spec =
     enum-known-item
     first-fault-requires
     returns
+    end-at-requires
     atom-fault-requires
     enum-known-item-2
     returns-2

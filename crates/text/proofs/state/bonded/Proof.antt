@@ -1,140 +1,79 @@
--- The two ends differ, so that each count goes up by one at its own place.
-use native.Mathlib.Omega.{arith}
-use lib.ListN.{getD}
-use Prim.Native.Nat.{_+_, _-_}
-use Rattle.text.proofs.StateLaws.{joined-held, count-other}
+-- What is stored and raised is what the calls give: the two places as bytes, and 1 for a bond to an H.
+use Prim.Native.Nat.{ℕ, _+_, _-_}
+use mathlib.Core.Path.{_≡_, refl, ap, _∙_}
+use lib.ListN.{set}
+use Rattle.text.specs.declared.item.Place.{Place}
+use Rattle.text.specs.declared.tally.Tally.{Tally}
+use Rattle.text.specs.Changing.{hBetween, raisedAt}
 use borrow.Author.Needs.{needs}
 use Rattle.text.proofs.state.bonded.Statement.{statement}
 use Rattle.text.proofs.state.bonded.Tie as tie
-use Rattle.text.proofs.state.bonded.Reads as reads
-use Rattle.text.proofs.state.bonded.Lts as lts
-use Rattle.text.proofs.state.h_bond.Reads as h-bond-reads
-use Rattle.text.proofs.state.narrow.Reads as narrow-reads
-use Rattle.text.proofs.state.wide.Reads as wide-reads
 
--- src/state.rt:154:13
+abbrev with-bond : Tally → Place → ℕ → Tally
+with-bond t p v = record { n = t .n; drawn = t .drawn + 1; atoms = t .atoms; total = t .total; bonds = t .bonds + v; cursor = p }
+
 cast-c : tie.Need-cast-c
 cast-c c = search needs
 
--- src/state.rt:155:13
 cast-p : tie.Need-cast-p
 cast-p c = search needs
 
--- src/state.rt:157:20
 element-copy-out-h-bond : tie.Need-element-copy-out-h-bond
 element-copy-out-h-bond c = search needs
 
--- src/state.rt:157:35
 element-copy-out-h-bond-2 : tie.Need-element-copy-out-h-bond-2
 element-copy-out-h-bond-2 c = search needs
 
--- src/state.rt:157:9
 h-bond-requires : tie.Need-h-bond-requires
 h-bond-requires c κs = search needs
 
--- src/state.rt:158:19
 narrow-requires : tie.Need-narrow-requires
 narrow-requires c κs = search needs
 
--- src/state.rt:158:5
-element-write-next : tie.Need-element-write-next
-element-write-next c = search needs
+element-write-one : tie.Need-element-write-one
+element-write-one c = search needs
 
--- src/state.rt:159:19
 narrow-requires-2 : tie.Need-narrow-requires-2
 narrow-requires-2 c κs = search needs
 
--- src/state.rt:159:5
-element-write-next-2 : tie.Need-element-write-next-2
-element-write-next-2 c = search needs
+element-write-two : tie.Need-element-write-two
+element-write-two c = search needs
 
--- src/state.rt:160:5
-element-write-next-3 : tie.Need-element-write-next-3
-element-write-next-3 c = search needs
+element-write-codes : tie.Need-element-write-codes
+element-write-codes c = search needs
 
--- src/state.rt:161:18
+raise-requires : tie.Need-raise-requires
+raise-requires c κs = search needs
+
+sub-raise : tie.Need-sub-raise
+sub-raise c = search needs
+
+raise-requires-2 : tie.Need-raise-requires-2
+raise-requires-2 c κs = search needs
+
 add-next : tie.Need-add-next
 add-next c = search needs
 
--- src/state.rt:162:25
-element-copy-out-next : tie.Need-element-copy-out-next
-element-copy-out-next c = search needs
-
--- src/state.rt:162:25
-add-next-2 : tie.Need-add-next-2
-add-next-2 c = search needs
-
--- src/state.rt:162:5
-element-write-next-4 : tie.Need-element-write-next-4
-element-write-next-4 c = search needs
-
--- src/state.rt:163:25
-element-copy-out-next-2 : tie.Need-element-copy-out-next-2
-element-copy-out-next-2 c = search needs
-
--- src/state.rt:163:25
-add-next-3 : tie.Need-add-next-3
-add-next-3 c =
-    let st = c .before .before .before .before .before .before .before .before .args .st in
-    let D = c .before .before .before .before .before .before .before .before .pre .1 in
-    omega (arith, count-other (st .hydrogens) (st .cursor .0) (c .before .before .before .before .before .before .before .before .args .to .0) (getD (st .hydrogens) (st .cursor .0) 0 + c .before .before .before .before .h-bond .result) (D .apart), D .fewH′, c .before .before .before .before .h-bond .ensures .small)
-
--- src/state.rt:163:5
-element-write-next-5 : tie.Need-element-write-next-5
-element-write-next-5 c = search needs
-
--- src/state.rt:164:23
-element-copy-out-next-3 : tie.Need-element-copy-out-next-3
-element-copy-out-next-3 c = search needs
-
--- src/state.rt:164:42
-sub-next : tie.Need-sub-next
-sub-next c = search needs
-
--- src/state.rt:164:23
-add-next-4 : tie.Need-add-next-4
-add-next-4 c = search needs
-
--- src/state.rt:164:5
-element-write-next-6 : tie.Need-element-write-next-6
-element-write-next-6 c = search needs
-
--- src/state.rt:165:23
-element-copy-out-next-4 : tie.Need-element-copy-out-next-4
-element-copy-out-next-4 c = search needs
-
--- src/state.rt:165:42
-sub-next-2 : tie.Need-sub-next-2
-sub-next-2 c = search needs
-
--- src/state.rt:165:23
-add-next-5 : tie.Need-add-next-5
-add-next-5 c =
-    let st = c .before .before .before .before .before .before .before .before .before .before .args .st in
-    let D = c .before .before .before .before .before .before .before .before .before .before .pre .1 in
-    omega (arith, count-other (st .degrees) (st .cursor .0) (c .before .before .before .before .before .before .before .before .before .before .args .to .0) (getD (st .degrees) (st .cursor .0) 0 + (1 - c .before .before .before .before .before .before .h-bond .result)) (D .apart), D .few′, c .before .before .before .before .before .before .h-bond .ensures .small)
-
--- src/state.rt:165:5
-element-write-next-7 : tie.Need-element-write-next-7
-element-write-next-7 c = search needs
-
--- src/state.rt:166:36
 sub-wide : tie.Need-sub-wide
 sub-wide c = search needs
 
--- src/state.rt:166:31
 wide-requires : tie.Need-wide-requires
 wide-requires c κs = search needs
 
--- src/state.rt:166:18
-add-next-6 : tie.Need-add-next-6
-add-next-6 c = search needs
+add-next-2 : tie.Need-add-next-2
+add-next-2 c = search needs
 
--- src/state.rt:149:1
 returns : tie.Need-returns
 returns c =
-    joined-held (c .before .before .before .before .before .before .before .before .before .before .before .args .st) _ _ _ _ _ _ (c .before .before .before .before .before .before .before .before .before .before .before .pre .0) (c .before .before .before .before .before .before .before .before .before .before .before .pre .1) (c .before .before .before .before .before .before .narrow .ensures) (c .before .before .before .before .before .narrow2 .ensures)
-    (c .before .before .before .before .before .before .before .h-bond .ensures .is) (c .wide .ensures .0)
+    let a = c .before .before .before .before .before .before .before .before .before .before .before .before .before .before .args in
+    let h : c .before .before .before .before .before .before .before .before .h-bond .result ≡ hBetween (a .kinds .now) (a .t .cursor .0) (a .to .0) = c .before .before .before .before .before .before .before .before .h-bond .ensures .is in (
+      ap (set (a .one .now) (a .t .drawn)) (c .before .before .before .before .before .before .before .narrow .ensures),
+      ap (set (a .two .now) (a .t .drawn)) (c .before .before .before .before .before .before .narrow2 .ensures),
+      refl,
+      c .before .before .before .before .raise .ensures ∙ ap (raisedAt (a .hydrogens .now) (a .t .cursor .0) (a .to .0)) h,
+      c .before .before .raise2 .ensures ∙ ap (λ (x : ℕ). raisedAt (a .degrees .now) (a .t .cursor .0) (a .to .0) (1 - x)) h,
+      ap (with-bond (a .t) (a .to)) (c .before .wide .ensures .0 ∙ ap (λ (x : ℕ). 1 - x) h),
+    )
 
 pub bonded-spec : {M : Type 1} → statement M
 bonded-spec =
@@ -146,26 +85,15 @@ bonded-spec =
     element-copy-out-h-bond-2
     h-bond-requires
     narrow-requires
-    element-write-next
+    element-write-one
     narrow-requires-2
-    element-write-next-2
-    element-write-next-3
+    element-write-two
+    element-write-codes
+    raise-requires
+    sub-raise
+    raise-requires-2
     add-next
-    element-copy-out-next
-    add-next-2
-    element-write-next-4
-    element-copy-out-next-2
-    add-next-3
-    element-write-next-5
-    element-copy-out-next-3
-    sub-next
-    add-next-4
-    element-write-next-6
-    element-copy-out-next-4
-    sub-next-2
-    add-next-5
-    element-write-next-7
     sub-wide
     wide-requires
-    add-next-6
+    add-next-2
     returns)

@@ -1,81 +1,69 @@
--- The steps that are left, from the place reached, lead where all of them lead from the cursor.
-use Prim.Native.Nat.{_-_}
-use Prim.Native.Nat.{_<_}
+-- The loop goes up one step a turn; what is left of the steps, from where it is, leads where all of them lead from the cursor.
+use Prim.Native.Nat.{ℕ, _-_, _≤_, _<_}
 use mathlib.Core.Path.{_≡_, refl, _∙_, sym, ap}
+use mathlib.Core.List.{List}
 use native.Mathlib.Omega.{arith}
+use lib.ListN.{getD}
+use lib.Seq.{getD-take}
+use Rattle.sling.specs.Reading as rules
 use Rattle.sling.specs.Reading.{climb}
-use Rattle.text.specs.Holding.{viewOf}
-use Rattle.text.proofs.StateLaws.{climb-top, climb-up, climb-end, view-places, view-up}
-use borrow.Author.Needs.{needs}
+use Rattle.text.specs.declared.tally.Tally.{Tally}
+use Rattle.text.specs.Changing.{Attached}
+use Rattle.text.proofs.StateLaws.{climb-top, climb-up, climb-end}
 use Rattle.text.proofs.state.climbed.Statement.{statement}
 use Rattle.text.proofs.state.climbed.Tie as tie
-use Rattle.text.proofs.state.climbed.Reads as reads
-use Rattle.text.proofs.state.climbed.Lts as lts
-use Rattle.text.proofs.state.place_of_number.Reads as place-of-number-reads
-use Rattle.text.proofs.state.wide.Reads as wide-reads
+
+attached-up : (s : rules.State) (ups : List ℕ) (t : Tally) → Attached s ups t → (p : ℕ) → p < t .n → getD (s .ups) p 0 ≡ getD ups p 0
+attached-up s ups t a p h = ap (λ (l : List ℕ). getD l p 0) (a .attached) ∙ getD-take (t .n) ups p 0 h
 
 abbrev Inv-loop : tie.InvT-loop
-Inv-loop steps st p₀ k₀ p k = (p < st .n) × (climb (viewOf st) k p ≡ climb (viewOf st) steps (st .cursor .0))
+Inv-loop ups t steps p₀ k₀ p k = (p < t .n) × ((s : rules.State) → Attached s ups t → climb s k p ≡ climb s steps (t .cursor .0))
 
 abbrev μ-loop : tie.MeasureT-loop
-μ-loop steps st p₀ k₀ p k = k
+μ-loop ups t steps p₀ k₀ p k = k
 
--- src/state.rt:99:17
 cast-p : tie.Need-cast-p Inv-loop μ-loop
-cast-p c = search needs
+cast-p c = omega (arith, c .before .pre .from, c .before .pre .places)
 
--- src/state.rt:101:5
 loop-holds : tie.Need-loop-holds Inv-loop μ-loop
-loop-holds c = (c .pre .1, refl)
+loop-holds c = (c .before .pre .from, λ s a. refl)
 
--- src/state.rt:103:13
 place-of-number-requires : tie.Need-place-of-number-requires Inv-loop μ-loop
-place-of-number-requires c κs = omega (arith, c .before .before .before .pre .0 .places)
+place-of-number-requires c κs = omega (arith, c .before .before .before .before .pre .places)
 
--- src/state.rt:103:13
 returns : tie.Need-returns Inv-loop μ-loop
 returns c =
     let L = c .before .before .before .loop in
-    let a = c .before .before .before .before .args in
-    c .place-of-number .ensures ∙ sym (view-places (a .t1) (c .before .before .before .before .pre .0)) ∙ sym (climb-top (viewOf (a .t1)) (L .k) (L .p) (c .before .before .loop-test .taken) (c .before .if1 .taken)) ∙ L .inv .1
+    λ s a. c .place-of-number .ensures ∙ sym (a .places) ∙ sym (climb-top s (L .k) (L .p) (c .before .before .loop-test .taken) (c .before .if1 .taken)) ∙ L .inv .1 s a
 
--- src/state.rt:105:18
 element-copy-out-wide : tie.Need-element-copy-out-wide Inv-loop μ-loop
-element-copy-out-wide c = omega (arith, c .before .before .before .pre .0 .places, c .before .before .before .pre .0 .upsLong)
+element-copy-out-wide c = omega (arith, c .before .before .before .before .pre .places)
 
--- src/state.rt:105:9
 wide-requires : tie.Need-wide-requires Inv-loop μ-loop
 wide-requires c κs = tt
 
--- src/state.rt:106:9
 sub-k : tie.Need-sub-k Inv-loop μ-loop
 sub-k c = omega arith
 
--- src/state.rt:101:5
 loop-less : tie.Need-loop-less Inv-loop μ-loop
 loop-less c = omega arith
 
--- src/state.rt:101:5
 loop-again : tie.Need-loop-again Inv-loop μ-loop
 loop-again c =
     let L = c .before .before .before .before .loop in
-    let a = c .before .before .before .before .before .args in
-    let t = c .before .before .before .before .before .pre .0 in
+    let start = c .before .before .before .before .before .before in
     let w = c .wide .ensures .0 in (
-      omega (arith, t .attached (L .p)),
-      ap (climb (viewOf (a .t1)) (L .k - 1)) (w ∙ sym (view-up (a .t1) (L .p) (L .inv .0))) ∙ sym (climb-up (viewOf (a .t1)) (L .k) (L .p) (c .before .before .before .loop-test .taken) (c .before .before .if1 .left)) ∙ L .inv .1,
+      omega (arith, start .pre .attached (L .p)),
+      λ s a. ap (climb s (L .k - 1)) (w ∙ sym (attached-up s _ _ a (L .p) (L .inv .0))) ∙ sym (climb-up s (L .k) (L .p) (c .before .before .before .loop-test .taken) (c .before .before .if1 .left)) ∙ L .inv .1 s a,
     )
 
--- src/state.rt:108:5
 place-of-number-requires-2 : tie.Need-place-of-number-requires-2 Inv-loop μ-loop
-place-of-number-requires-2 c κs = omega (arith, c .before .before .pre .0 .places)
+place-of-number-requires-2 c κs = omega (arith, c .before .before .before .pre .places)
 
--- src/state.rt:95:1
 returns-2 : tie.Need-returns-2 Inv-loop μ-loop
 returns-2 c =
     let L = c .before .before .loop in
-    let a = c .before .before .before .args in
-    c .place-of-number2 .ensures ∙ sym (climb-end (viewOf (a .t1)) (L .k) (L .p) (c .before .loop-test .left)) ∙ L .inv .1
+    λ s a. c .place-of-number2 .ensures ∙ sym (climb-end s (L .k) (L .p) (c .before .loop-test .left)) ∙ L .inv .1 s a
 
 pub climbed-spec : {M : Type 1} → statement M
 climbed-spec =

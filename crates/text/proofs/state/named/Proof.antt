@@ -1,35 +1,27 @@
--- The definition at the case that was matched.
+-- A place is named by itself, steps by where they lead.
 use mathlib.Core.Path.{_∙_, sym, ap}
-use Rattle.sling.specs.Reading.{placeOf}
+use Rattle.sling.specs.Reading.{climb, placeOf}
 use Rattle.text.specs.Scanning.{targetOf}
-use Rattle.text.specs.Holding.{viewOf}
 use Rattle.text.specs.declared.item.Target.{Target}
 use borrow.Author.Needs.{needs}
 use Rattle.text.proofs.state.named.Statement.{statement}
 use Rattle.text.proofs.state.named.Tie as tie
-use Rattle.text.proofs.state.named.Reads as reads
-use Rattle.text.proofs.state.named.Lts as lts
-use Rattle.text.proofs.state.climbed.Reads as climbed-reads
 
--- src/state.rt:117:20
 enum-known-target : tie.Need-enum-known-target
 enum-known-target c = search needs
 
--- src/state.rt:118:20
 enum-known-target-2 : tie.Need-enum-known-target-2
 enum-known-target-2 c = search needs
 
--- src/state.rt:118:30
 climbed-requires : tie.Need-climbed-requires
-climbed-requires c κs = search needs
+climbed-requires c κs = c .before .before .before .pre
 
--- src/state.rt:112:1
 returns : tie.Need-returns
-returns c = ap (λ (t : Target). placeOf (viewOf (c .before .before .before .args .st)) (targetOf t)) (sym (c .before .target .given .1))
+returns c = λ s a. ap (λ (g : Target). placeOf s (targetOf g)) (sym (c .before .target .given .1))
 
--- src/state.rt:112:1
 returns-2 : tie.Need-returns-2
-returns-2 c = c .climbed .ensures ∙ ap (λ (t : Target). placeOf (viewOf (c .before .before .before .before .args .st)) (targetOf t)) (sym (c .before .before .target2 .given .1))
+returns-2 c =
+    λ s a. c .climbed .ensures s a ∙ ap (climb s (c .before .before .target2 .given .0 .0)) (sym (a .cursor)) ∙ ap (λ (g : Target). placeOf s (targetOf g)) (sym (c .before .before .target2 .given .1))
 
 pub named-spec : {M : Type 1} → statement M
 named-spec =
