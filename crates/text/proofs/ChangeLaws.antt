@@ -1,9 +1,9 @@
 -- Arrays changed one by one make up a state changed as the rules say: what each function that changes them gives, put together.
-use Prim.Native.Nat.{ℕ, _+_, _-_, _≤_, _<_}
+use Prim.Native.Nat.{ℕ, _-_, _≤_, _<_}
 use mathlib.Core.Path.{_≡_, refl, sym, ap, subst, _∙_}
 use mathlib.Core.List.{List}
 use native.Mathlib.Omega.{arith}
-use lib.ListN.{length, getD, set, replicate}
+use lib.ListN.{length, set, replicate}
 use Rattle.sling.specs.Items.{Target, atom, reference, ring}
 use Rattle.sling.specs.Reading as rules
 use Rattle.sling.specs.Reading.{placeOf}

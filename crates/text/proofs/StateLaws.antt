@@ -247,9 +247,6 @@ climb-end s (suc k) p h = absurd (omega arith)
 pub view-places : (st : State) → Tallied st → length (viewOf st .kinds) ≡ st .n
 view-places st t = length-take-le (st .n) (st .kinds) (omega (arith, t .places, t .kindsLong))
 
-pub view-up : (st : State) (p : ℕ) → p < st .n → getD (viewOf st .ups) p 0 ≡ getD (st .ups) p 0
-view-up st p h = getD-take (st .n) (st .ups) p 0 h
-
 pub view-kind : (st : State) (p : ℕ) → p < st .n → getD (viewOf st .kinds) p 0 ≡ getD (st .kinds) p 0
 view-kind st p h = getD-take (st .n) (st .kinds) p 0 h
 

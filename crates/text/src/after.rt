@@ -32,17 +32,8 @@ fn with_atom(
     if n == 0 {
         return more.moved(Place(0));
     }
-    bonded(
-        kinds,
-        one,
-        two,
-        codes,
-        hydrogens,
-        degrees,
-        more,
-        place_of_number(n),
-        code,
-    )
+    let to = place_of_number(n);
+    bonded(kinds, one, two, codes, hydrogens, degrees, more, to, code)
 }
 
 pub fn after(
@@ -74,16 +65,9 @@ pub fn after(
             kind,
         ),
         Item::Reference(target) => t.moved(named(ups, t, target)),
-        Item::Ring { code, target } => bonded(
-            kinds,
-            one,
-            two,
-            codes,
-            hydrogens,
-            degrees,
-            t,
-            named(ups, t, target),
-            code,
-        ),
+        Item::Ring { code, target } => {
+            let to = named(ups, t, target);
+            bonded(kinds, one, two, codes, hydrogens, degrees, t, to, code)
+        }
     }
 }

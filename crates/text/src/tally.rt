@@ -1,6 +1,5 @@
 // The counts of a state and its cursor: what is passed by value while its arrays are lent.
 ghost use mathlib.Core.Path.{_≡_};
-ghost use Prim.Native.Nat.{_≤_, _<_};
 ghost use Rattle.text.specs.Changing.{noTally, movedTally};
 use crate::item::Place;
 

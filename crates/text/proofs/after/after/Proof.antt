@@ -41,10 +41,10 @@ enum-known-item-3 c = search needs
 
 named-requires-2 : tie.Need-named-requires-2
 named-requires-2 c κs =
-    let s = c .before .before .before .before .before .before .before .before .before .before in
+    let s = c .before .before .before .before in
     let a = s .args in
     let st : State = stateOf (a .kinds .now) (a .ups .now) (a .one .now) (a .two .now) (a .codes .now) (a .hydrogens .now) (a .degrees .now) (a .t) in
-    let C = subst (λ (i : Item). Continues st (itemOf i)) (c .before .before .before .before .before .before .before .before .item3 .given .1) (s .pre) in
+    let C = subst (λ (i : Item). Continues st (itemOf i)) (c .before .before .item3 .given .1) (s .pre) in
     climbable (a .kinds .now) (a .ups .now) (a .one .now) (a .two .now) (a .codes .now) (a .hydrogens .now) (a .degrees .now) (a .t) (C .held) (ring-some st (C .held) _ _ (C .judged))
 
 bonded-requires : tie.Need-bonded-requires
@@ -53,7 +53,7 @@ bonded-requires c κs =
     let a = s .args in
     let st : State = stateOf (a .kinds .now) (a .ups .now) (a .one .now) (a .two .now) (a .codes .now) (a .hydrogens .now) (a .degrees .now) (a .t) in
     let C = subst (λ (i : Item). Continues st (itemOf i)) (c .before .before .before .before .before .before .before .before .before .item3 .given .1) (s .pre) in
-    ring-bondable (a .kinds .now) (a .ups .now) (a .one .now) (a .two .now) (a .codes .now) (a .hydrogens .now) (a .degrees .now) (a .t) _ _ C _ (c .named2 .ensures (viewOf st) (view-attached (a .kinds .now) (a .ups .now) (a .one .now) (a .two .now) (a .codes .now) (a .hydrogens .now) (a .degrees .now) (a .t) (C .held .tallied)))
+    ring-bondable (a .kinds .now) (a .ups .now) (a .one .now) (a .two .now) (a .codes .now) (a .hydrogens .now) (a .degrees .now) (a .t) _ _ C _ (c .before .before .before .before .before .before .named2 .ensures (viewOf st) (view-attached (a .kinds .now) (a .ups .now) (a .one .now) (a .two .now) (a .codes .now) (a .hydrogens .now) (a .degrees .now) (a .t) (C .held .tallied)))
 
 returns : tie.Need-returns
 returns c =
@@ -78,7 +78,7 @@ returns-3 c =
     let a = s .args in
     let st : State = stateOf (a .kinds .now) (a .ups .now) (a .one .now) (a .two .now) (a .codes .now) (a .hydrogens .now) (a .degrees .now) (a .t) in
     let C = subst (λ (i : Item). Continues st (itemOf i)) (c .before .before .before .before .before .before .before .before .before .before .item3 .given .1) (s .pre) in
-    let F = ring-follows (a .kinds .now) (a .ups .now) (a .one .now) (a .two .now) (a .codes .now) (a .hydrogens .now) (a .degrees .now) (a .t) _ _ _ _ _ _ _ _ (c .bonded .ensures) _ C (c .before .named2 .ensures (viewOf st) (view-attached (a .kinds .now) (a .ups .now) (a .one .now) (a .two .now) (a .codes .now) (a .hydrogens .now) (a .degrees .now) (a .t) (C .held .tallied))) in
+    let F = ring-follows (a .kinds .now) (a .ups .now) (a .one .now) (a .two .now) (a .codes .now) (a .hydrogens .now) (a .degrees .now) (a .t) _ _ _ _ _ _ _ _ (c .bonded .ensures) _ C (c .before .before .before .before .before .before .before .named2 .ensures (viewOf st) (view-attached (a .kinds .now) (a .ups .now) (a .one .now) (a .two .now) (a .codes .now) (a .hydrogens .now) (a .degrees .now) (a .t) (C .held .tallied))) in
     record { is = F .is ∙ ap (λ (i : Item). after (viewOf st) (itemOf i)) (sym (c .before .before .before .before .before .before .before .before .before .before .item3 .given .1)); held = F .held }
 
 pub after-spec : {M : Type 1} → statement M

@@ -1,5 +1,5 @@
 -- The loop goes up one step a turn; what is left of the steps, from where it is, leads where all of them lead from the cursor.
-use Prim.Native.Nat.{ℕ, _-_, _≤_, _<_}
+use Prim.Native.Nat.{ℕ, _-_, _<_}
 use mathlib.Core.Path.{_≡_, refl, _∙_, sym, ap}
 use mathlib.Core.List.{List}
 use native.Mathlib.Omega.{arith}
