@@ -26,7 +26,7 @@ use Rattle.sling.proofs.Limits.{Room}
 use Rattle.text.specs.declared.tally.Tally.{Tally}
 use Rattle.text.specs.declared.fault.End.{End}
 use Rattle.text.specs.Holding.{bit, hBit, hBond, grownBy, bondedBy}
-use Rattle.text.specs.Judging.{hBroken, overIn, overOn, firstFault, atomFault, ringFault, referenceFault}
+use Rattle.text.specs.Judging.{hBroken, overIn, overOn, openingFault, atomFault, ringFault, referenceFault}
 use Rattle.text.proofs.StateLaws.{bit-not, grown-hydrogensOn, grown-bondsOn, grown-heavyBonds}
 
 -- one that passes is one of them
@@ -277,14 +277,8 @@ module _ (s : State) (none : length (s .kinds) ≡ 0) where
       pick [] z false = refl
       pick (x ∷ l) z b = absurd (omega arith)
 
-  pub first-fault : (m k : ℕ) → firstFault m k ≡ itemFault s (atom m k)
+  pub opening-fault : (i : Item) → openingFault i ≡ itemFault s i
   unfolding itemFault after
-  first-fault m k = sym (rw (eq-eqb _ _ none, alone k (s .cursor) (length (s .kinds)) (s .ups ++ (s .cursor ∷ []))))
-
-  pub first-reference : (t : Target) → 2 ≡ itemFault s (reference t)
-  unfolding itemFault
-  first-reference t = rw (eq-eqb _ _ none)
-
-  pub first-ring : (m : ℕ) (t : Target) → 2 ≡ itemFault s (ring m t)
-  unfolding itemFault
-  first-ring m t = rw (eq-eqb _ _ none)
+  opening-fault (atom m k) = sym (rw (eq-eqb _ _ none, alone k (s .cursor) (length (s .kinds)) (s .ups ++ (s .cursor ∷ []))))
+  opening-fault (reference t) = rw (eq-eqb _ _ none)
+  opening-fault (ring m t) = rw (eq-eqb _ _ none)

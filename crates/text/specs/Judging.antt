@@ -8,6 +8,7 @@ use Rattle.lists.specs.Upto.{each}
 use Rattle.lists.specs.Tests.{some}
 use Rattle.molecule.specs.Bonds.{joins}
 use Rattle.molecule.specs.Limits.{mostAtoms, mostHydrogensOn, mostHydrogens, mostBonds, mostBondsOn}
+use Rattle.sling.specs.Items as rule
 use Rattle.text.specs.declared.tally.Tally.{Tally}
 use Rattle.text.specs.declared.fault.End.{End}
 use Rattle.text.specs.Holding.{bit, hBit, hBond}
@@ -33,6 +34,12 @@ overOn h b = ltb mostHydrogensOn h || ltb mostBondsOn b
 
 abbrev pub firstFault : (code kind : ℕ) → ℕ
 firstFault m k = cond (ltb 1 m) 2 (cond (ltb 24 k) 3 0)
+
+-- an item before any atom
+abbrev pub openingFault : rule.Item → ℕ
+openingFault (rule.atom m k) = firstFault m k
+openingFault (rule.reference t) = 2
+openingFault (rule.ring m t) = 2
 
 -- bond k of two arrays joins p and q
 abbrev pub pairIn : (one two : List ℕ) → (p q k : ℕ) → Bool

@@ -11,7 +11,7 @@ ghost use Rattle.sling.specs.Faults.{itemFault};
 ghost use Rattle.text.specs.Scanning.{itemOf};
 ghost use Rattle.text.specs.Holding.{viewOf, Held};
 ghost use Rattle.text.specs.Changing.{stateOf};
-ghost use Rattle.text.specs.Judging.{Ready, hBroken, overIn, overOn, firstFault, pairIn, pairedIn, endAt, atomFault, ringFault, referenceFault};
+ghost use Rattle.text.specs.Judging.{Ready, hBroken, overIn, overOn, firstFault, openingFault, pairIn, pairedIn, endAt, atomFault, ringFault, referenceFault};
 use crate::item::Item;
 use crate::item::Place;
 use crate::state::State;
@@ -155,7 +155,6 @@ fn first_of(one: u8, two: u8) -> u8
     one
 }
 
-// The first item is an atom without a mark.
 fn first_fault(code: u8, kind: u8) -> u8
     ensures { λ r. ⌜ r ≡ firstFault code kind ⌝ }
 {
@@ -166,6 +165,17 @@ fn first_fault(code: u8, kind: u8) -> u8
         return 3;
     }
     0
+}
+
+// The first item is an atom without a mark.
+fn opening_fault(item: Item) -> u8
+    ensures { λ r. ⌜ r ≡ openingFault (itemOf item) ⌝ }
+{
+    match item {
+        Item::Atom { code, kind } => first_fault(code, kind),
+        Item::Reference(_) => 2,
+        Item::Ring { .. } => 2,
+    }
 }
 
 fn end_at<'a>(
@@ -272,34 +282,18 @@ pub fn item_fault<'a>(
     ensures { λ r. ⌜ ((codes : List ℕ) → Held (stateOf (now (kinds .entry)) (now (ups .entry)) (now (one .entry)) (now (two .entry)) codes (now (hydrogens .entry)) (now (degrees .entry)) t)
         → r ≡ itemFault (viewOf (stateOf (now (kinds .entry)) (now (ups .entry)) (now (one .entry)) (now (two .entry)) codes (now (hydrogens .entry)) (now (degrees .entry)) t)) (itemOf item)) ⌝ }
 {
-    let n = t.n;
+    if t.n == 0 {
+        return opening_fault(item);
+    }
     match item {
         Item::Atom { code, kind } => {
-            if n == 0 {
-                return first_fault(code, kind);
-            }
-            atom_fault(end_at(kinds, hydrogens, degrees, t.cursor), t, code, kind)
+            let from = end_at(kinds, hydrogens, degrees, t.cursor);
+            atom_fault(from, t, code, kind)
         }
-        Item::Reference(target) => {
-            if n == 0 {
-                return 2;
-            }
-            reference_fault(n, named(ups, t, target))
-        }
+        Item::Reference(target) => reference_fault(t.n, named(ups, t, target)),
         Item::Ring { code, target } => {
-            if n == 0 {
-                return 2;
-            }
-            ring_fault(
-                kinds,
-                one,
-                two,
-                hydrogens,
-                degrees,
-                t,
-                code,
-                named(ups, t, target),
-            )
+            let to = named(ups, t, target);
+            ring_fault(kinds, one, two, hydrogens, degrees, t, code, to)
         }
     }
 }

@@ -62,10 +62,9 @@ pub fn read(text: &[u8]) -> Reading
         );
         at = next;
     }
-    let state = state_of(&kinds, &ups, &one, &two, &codes, &hydrogens, &degrees, t);
     Reading {
         refusal: 0,
         place: 0,
-        state,
+        state: state_of(&kinds, &ups, &one, &two, &codes, &hydrogens, &degrees, t),
     }
 }
