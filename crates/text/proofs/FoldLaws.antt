@@ -1,36 +1,26 @@
 -- Folding: the atoms one by one.
 use Prim.Native.Nat.{ℕ, zero, suc, _+_, _≤_, _<_}
-use mathlib.Core.Path.{_≡_, refl, sym, ap, ap₂, subst, _∙_}
-use mathlib.Core.List.{List, [], _∷_, _++_, map, append-nil}
-use mathlib.Core.Bool.{Bool, true, false, cond, not, _&&_, _||_, or-true, and-false, and-true}
-use mathlib.Core.Logic.{_⊎_, inl, inr, ⊎-elim}
+use mathlib.Core.Path.{_≡_, refl, sym, ap, subst, _∙_}
+use mathlib.Core.List.{List, [], _∷_, _++_, append-nil}
+use mathlib.Core.Bool.{Bool, true, false, not}
 use native.Mathlib.Decide.{ℕ-discrete}
-use native.Mathlib.Nat.{not-suc-le-zero, add-zero}
+use native.Mathlib.Nat.{not-suc-le-zero}
 use native.Mathlib.Numerals.{add-one}
 use native.Mathlib.Omega.{arith}
 use lib.ListN.{length, getD, set, replicate, length-set, length-replicate, length-append, List·getD-append}
 use lib.Seq.{getD-append-seam, getD-set-same, getD-set-other}
-use lib.Dec.{eqb, ltb}
-use borrow.Author.Tests.{eq-eqb, ne-eqb, eqb-true, eqb-false, ltb-true, ltb-false}
+use lib.Dec.{eqb}
+use borrow.Author.Tests.{ne-eqb, eqb-false}
 use Rattle.lists.specs.Upto.{from, upto, each}
-use Rattle.lists.specs.Tests.{keep, count, some}
+use Rattle.lists.specs.Tests.{keep, count}
 use Rattle.lists.proofs.Steps.{keep-next, count-next}
 use Rattle.lists.proofs.Passed.{length-keep}
-use Rattle.lists.proofs.Members.{getD-mem}
-use Rattle.lists.proofs.Passed.{count-take}
-use Rattle.molecule.specs.Bonds.{Bond, on, joins, codeIn}
-use Rattle.molecule.specs.Molecule.{Molecule, neighbours}
-use Rattle.molecule.specs.Renumbering.{Renumbered}
 use Rattle.sling.specs.Reading as rules
-use Rattle.sling.specs.Reading.{isH, toH, hydrogensOn, bondsOn}
-use Rattle.sling.specs.Faults.{heavyAtoms}
+use Rattle.sling.specs.Reading.{isH, hydrogensOn}
 use Rattle.sling.specs.Folded.{heavyPlaces, folded}
-use Rattle.lists.proofs.All.{All, all-mem}
-use Rattle.lists.proofs.Passed.{count-snoc}
-use Rattle.sling.proofs.Tidy.{Proper, Tidy}
-use Rattle.molecule.proofs.BondLists.{joins-ends}
+use Rattle.sling.proofs.Tidy.{Tidy}
 use Rattle.sling.proofs.Limits.{Room}
-use Rattle.sling.proofs.Folds.{folded-size, place-heavy}
+use Rattle.sling.proofs.Folds.{folded-size}
 use Rattle.table.specs.Arrays as arrays
 use Rattle.table.specs.Arrays.{asMolecule}
 use Rattle.table.proofs.Unbonded.{unbonded, unbonded-tidy, unbonded-code, unbonded-degree}

@@ -11,7 +11,7 @@ use lib.ListN.{length, getD, take}
 use lib.Seq.{take-suc, take-length}
 use lib.Dec.{eqb}
 use borrow.Author.Tests.{eq-eqb, ne-eqb, eqb-true, eqb-false, not-true}
-use Rattle.lists.specs.Tests.{count, some}
+use Rattle.lists.specs.Tests.{count}
 use Rattle.lists.proofs.Upto.{getD-each}
 use Rattle.lists.proofs.Members.{getD-mem}
 use Rattle.lists.proofs.Passed.{count-take}

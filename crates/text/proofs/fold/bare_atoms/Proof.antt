@@ -1,4 +1,4 @@
--- Each turn numbers a place and, where it holds no H, puts its atom into the arrays.
+-- The arrays have the places passed that have no H, in their order, and no row has anything.
 use Prim.Native.Nat.{ℕ, _≤_, _<_, _-_}
 use mathlib.Core.Path.{_≡_, _∙_, sym, subst}
 use native.Mathlib.Omega.{arith}

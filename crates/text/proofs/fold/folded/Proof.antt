@@ -1,4 +1,4 @@
--- Each turn puts a bond between two atoms that are no H into the rows.
+-- The table that the rows make so far is tidy and has the bonds passed, those to an H left out.
 use Prim.Native.Nat.{ℕ, _≤_, _<_, _-_}
 use mathlib.Core.List.{List}
 use mathlib.Core.Path.{_≡_, sym, subst}
