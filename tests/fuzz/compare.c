@@ -18,7 +18,7 @@ static struct scallopgrid_answer ask_reference(const struct request *request, ui
 void compare(struct tally *tally, const struct request *request, size_t room, struct outcome *outcome)
 {
     static uint8_t library[LENT + GUARD], reference[LENT + GUARD];
-    /* a byte that no output has, but in class marks and cards, where the length tells it apart */
+    /* the same in both, so that a byte that only one of them writes shows */
     memset(library, 0xa5, room + GUARD);
     memset(reference, 0xa5, room + GUARD);
     struct scallopgrid_answer got = ask_library(request, library, room);

@@ -13,11 +13,12 @@ struct run {
     struct outcome outcome, second;
 };
 
+/* Mostly small, since the allowance bounds the work of a call. */
 static uint16_t some_allowance(struct chance *c)
 {
-    if (once_in(c, 20000))
+    if (once_in(c, 200000))
         return (uint16_t)(65535 - below(c, 2));
-    return (uint16_t)below(c, once_in(c, 50) ? 3000 : once_in(c, 4) ? 200 : 30);
+    return (uint16_t)below(c, once_in(c, 1000) ? 3000 : once_in(c, 10) ? 200 : 30);
 }
 
 /* Mostly enough for any output. */

@@ -1,5 +1,5 @@
 /* A molecule as document 01 describes it, and what the reference does with one.
- * Written from document 01 alone: it shares no line and no data structure with crates/. */
+ * Written from document 01 and the readings of it that docs/DECISIONS.md lists, not from the code of crates/. */
 #ifndef REFERENCE_MOLECULE_H
 #define REFERENCE_MOLECULE_H
 

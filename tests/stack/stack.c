@@ -10,7 +10,8 @@ struct measured {
     size_t depth;
 };
 
-/* Runs on the painted stack: paints what is below itself once more, since starting a thread has used some of it. */
+/* Runs on the painted stack: paints what is below itself once more, since starting a thread has used some of it. A page
+ * is left for its own frame, so that no depth below a page is told apart. */
 static void *measure(void *argument)
 {
     struct measured *m = argument;
