@@ -4,14 +4,12 @@ ghost use mathlib.Core.Bool.{cond, _&&_, _||_};
 ghost use Prim.Native.Nat.{ℕ, _≤_, _<_};
 ghost use mathlib.Core.List.{List};
 ghost use lib.Dec.{eqb};
-ghost use Rattle.lists.specs.Upto.{each};
-ghost use Rattle.lists.specs.Tests.{some};
 ghost use Rattle.molecule.specs.Bonds.{joins};
 ghost use Rattle.sling.specs.Faults.{itemFault};
 ghost use Rattle.text.specs.Scanning.{itemOf};
 ghost use Rattle.text.specs.Holding.{viewOf, Held};
 ghost use Rattle.text.specs.Changing.{stateOf};
-ghost use Rattle.text.specs.Judging.{Ready, hBroken, overIn, overOn, firstFault, openingFault, pairIn, pairedIn, endAt, atomFault, ringFault, referenceFault};
+ghost use Rattle.text.specs.Judging.{Ready, hBroken, overIn, overOn, firstFault, openingFault, pairedIn, endAt, atomFault, ringFault, referenceFault};
 use crate::item::Item;
 use crate::item::Place;
 use crate::state::State;
@@ -100,7 +98,7 @@ fn paired<'a>(
     q: Place,
 ) -> bool
     requires { ⌜ drawn ≤ 208 ⌝ }
-    ensures { λ r. ⌜ r ≡ some (each drawn (λ k. pairIn (now (one .entry)) (now (two .entry)) (p .0) (q .0) k)) ⌝ }
+    ensures { λ r. ⌜ r ≡ pairedIn (now (one .entry)) (now (two .entry)) drawn (p .0) (q .0) ⌝ }
 {
     let mut i = 0;
     while i < drawn {
@@ -134,7 +132,7 @@ fn pair_fault<'a>(
     q: Place,
 ) -> u8
     requires { ⌜ drawn ≤ 208 ⌝ }
-    ensures { λ r. ⌜ r ≡ cond (eqb (p .0) (q .0) || some (each drawn (λ k. pairIn (now (one .entry)) (now (two .entry)) (p .0) (q .0) k))) 6 0 ⌝ }
+    ensures { λ r. ⌜ r ≡ cond (eqb (p .0) (q .0) || pairedIn (now (one .entry)) (now (two .entry)) drawn (p .0) (q .0)) 6 0 ⌝ }
 {
     if p.0 == q.0 {
         return 6;
