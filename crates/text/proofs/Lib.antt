@@ -6,6 +6,7 @@ pub mod FaultLaws
 pub mod JudgedLaws
 pub mod AfterLaws
 pub mod ChangeLaws
+pub mod ResolvedLaws
 pub mod ReadLaws
 pub mod FoldLaws
 pub mod LinkLaws

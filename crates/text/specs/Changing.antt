@@ -1,7 +1,9 @@
 -- What an item changes, array by array and count by count.
 use Prim.Native.Nat.{ℕ, _+_, _-_, _≤_, _<_}
+use mathlib.Core.Bool.{Bool, true, false}
 use mathlib.Core.Path.{_≡_}
 use mathlib.Core.List.{List}
+use lib.Dec.{eqb}
 use lib.ListN.{length, getD, set, take}
 use Rattle.sling.specs.Items as rule
 use Rattle.sling.specs.Reading as rules
@@ -86,6 +88,16 @@ pub record Attached (s : rules.State) (ups : List ℕ) (t : Tally) : Type 0 wher
   pub places : length (s .kinds) ≡ t .n
   pub attached : s .ups ≡ take (t .n) ups
   pub cursor : s .cursor ≡ t .cursor .0
+
+-- an item with its atom named by place; where there is no atom yet, as it is
+abbrev pub resolvedIf : Bool → rules.State → rule.Item → rule.Item
+resolvedIf true s i = i
+resolvedIf false s (rule.atom m k) = rule.atom m k
+resolvedIf false s (rule.reference t) = rule.reference (rule.at (rules.placeOf s t))
+resolvedIf false s (rule.ring m t) = rule.ring m (rule.at (rules.placeOf s t))
+
+abbrev pub resolved : rules.State → rule.Item → rule.Item
+resolved s i = resolvedIf (eqb (length (s .kinds)) 0) s i
 
 -- there is room for a bond from the cursor to p
 pub record Bondable (hydrogens degrees : List ℕ) (t : Tally) (p : ℕ) : Type 0 where

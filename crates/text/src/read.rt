@@ -7,6 +7,7 @@ use crate::fault::item_fault;
 use crate::item::Scanned;
 use crate::scan::scan;
 use crate::state::State;
+use crate::state::resolved;
 use crate::state::state_of;
 use crate::tally::Tally;
 
@@ -42,9 +43,10 @@ pub fn read(text: &[u8]) -> Reading
     let mut t = Tally::empty();
     let mut at: usize = 0;
     while at < text.len() {
-        let Scanned::Got(item, next) = scan(text, at) else {
+        let Scanned::Got(scanned, next) = scan(text, at) else {
             return refused(2, at);
         };
+        let item = resolved(&ups, t, scanned);
         let fault = item_fault(&kinds, &ups, &one, &two, &hydrogens, &degrees, t, item);
         if fault != 0 {
             return refused(fault, at);

@@ -4,9 +4,10 @@ ghost use Prim.Native.Nat.{_-_, _≤_, _<_};
 ghost use lib.ListN.{set};
 ghost use Rattle.sling.specs.Reading as rules;
 ghost use Rattle.sling.specs.Reading.{start, climb, placeOf};
-ghost use Rattle.text.specs.Scanning.{targetOf};
+ghost use Rattle.text.specs.Scanning.{targetOf, itemOf};
 ghost use Rattle.text.specs.Holding.{viewOf, Held, Bit, hBit, hBond};
-ghost use Rattle.text.specs.Changing.{stateOf, grownTally, bondedTally, hBetween, raisedAt, Raisable, Growable, Bondable, Climbable, Attached};
+ghost use Rattle.text.specs.Changing.{stateOf, grownTally, bondedTally, hBetween, raisedAt, Raisable, Growable, Bondable, Climbable, Attached, resolved};
+use crate::item::Item;
 use crate::item::Place;
 use crate::item::Target;
 use crate::tally::Tally;
@@ -152,6 +153,30 @@ pub fn named(ups: &[u8; State::PLACES], t: Tally, target: Target) -> Place
     match target {
         Target::At(place) => place,
         Target::Up(steps) => climbed(ups, t, steps),
+    }
+}
+
+// An item with its atom named by place, so that steps are gone once for each item.
+pub fn resolved(ups: &[u8; State::PLACES], t: Tally, item: Item) -> Item
+    requires { ⌜ ((t .n ≡ 0 → ⊥) → Climbable (now ups) t) ⌝ }
+    ensures { λ r. ⌜ ((s : rules.State) → Attached s (now (ups .entry)) t → itemOf r ≡ resolved s (itemOf item)) ⌝ }
+{
+    if t.n == 0 {
+        return item;
+    }
+    match item {
+        Item::Atom { code, kind } => Item::Atom { code, kind },
+        Item::Reference(target) => {
+            let place = named(ups, t, target);
+            Item::Reference(Target::At(place))
+        }
+        Item::Ring { code, target } => {
+            let place = named(ups, t, target);
+            Item::Ring {
+                code,
+                target: Target::At(place),
+            }
+        }
     }
 }
 
