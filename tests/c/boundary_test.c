@@ -9,7 +9,7 @@ enum {
     BEYOND = 3,
     /* a call at each room is a numbering at each room: where that is more leaves than this, only the rooms about the
      * two ends are tried */
-    MOST_LEAVES_OVER_ALL_ROOMS = 2000
+    MOST_LEAVES_OVER_ALL_ROOMS = 1000
 };
 
 static unsigned long calls, failures;
