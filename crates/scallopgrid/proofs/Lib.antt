@@ -1,6 +1,5 @@
 pub mod Faults
 pub mod Steps
-pub mod Marks
 pub mod Runs
 pub mod Read
 pub mod Fits

@@ -20,8 +20,8 @@ returns : tie.Need-returns
 unfolding marksOf
 returns c = run-refused marksOut _ _ _ (c .before .before .before .number-card .ensures) _ (c .before .if1 .taken) _ (c .refused .ensures)
 
-write-marks-requires : tie.Need-write-marks-requires
-write-marks-requires c κs = marks-few _ _ _ (c .before .before .before .before .number-card .ensures) (c .before .before .if1 .left)
+write-requires : tie.Need-write-requires
+write-requires c κs = marks-few _ _ _ (c .before .before .before .before .number-card .ensures) (c .before .before .if1 .left)
 
 answered-requires : tie.Need-answered-requires
 answered-requires c κs = search needs
@@ -36,7 +36,7 @@ returns-2 c =
     let z = c .before .before .before .before .before .before .if1 .left in
     let a = c .before .before .before .before .before .before .before .before .before .before .before .args in
     run-written marksOut _ _ _ N _ z _ _
-    (subst (λ (l : List ℕ). Written l (a .out .now) (c .before .before .before .write-marks .last .1 .0) (c .before .before .before .write-marks .result)) (marks-are _ _ _ N z) (c .before .before .before .write-marks .ensures)) _ (c .answered .ensures)
+    (subst (λ (l : List ℕ). Written l (a .out .now) (c .before .before .before .write .last .1 .0) (c .before .before .before .write .result)) (marks-are _ _ _ N z) (c .before .before .before .write .ensures)) _ (c .answered .ensures)
 
 pub class-marks-spec : {M : Type 1} → statement M
 class-marks-spec =
@@ -45,7 +45,7 @@ class-marks-spec =
     number-card-requires
     refused-requires
     returns
-    write-marks-requires
+    write-requires
     answered-requires
     same-length
     returns-2)
