@@ -4,3 +4,4 @@ pub mod Forms
 pub mod Filed
 pub mod Drawings
 pub mod Molfiles
+pub mod Promises
