@@ -51,7 +51,7 @@ module _ {σ : ℕ → ℕ} (card card′ : List ℕ) (w : WellFormed card) (w�
   answer-same : (out : Molecule → List ℕ) → out (moleculeOf card′) ≡ out (moleculeOf card) → (allowance room : ℕ) → ofCard out card′ allowance room ≡ ofCard out card allowance room
   answer-same out e allowance room =
       card-answered out card′ allowance room w′
-      ∙ ap₂ (within out card allowance room) leaves-same e
+      ∙ ap₂ (within out allowance room) leaves-same e
       ∙ sym (card-answered out card allowance room w)
 
   marks-same : (allowance room : ℕ) → SameMarks σ (moleculeOf card .size) (marksOf card allowance room) (marksOf card′ allowance room)

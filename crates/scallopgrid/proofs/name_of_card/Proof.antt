@@ -4,27 +4,31 @@ use mathlib.Core.Path.{subst}
 use Prim.Native.Nat.{ℕ}
 use Rattle.lent.specs.Written.{Written}
 use Rattle.rules.specs.Answers.{nameOut, nameOf}
-use Rattle.scallopgrid.proofs.Steps.{ready, nameable, name-is}
+use Rattle.scallopgrid.proofs.Faults.{card-answers}
+use Rattle.scallopgrid.proofs.Steps.{card-numbers, ready, nameable, name-is}
 use Rattle.scallopgrid.proofs.Runs.{run-refused, run-written}
 use borrow.Author.Needs.{needs}
 use Rattle.scallopgrid.proofs.name_of_card.Statement.{statement}
 use Rattle.scallopgrid.proofs.name_of_card.Tie as tie
 
-number-card-requires : tie.Need-number-card-requires
-number-card-requires c κs = search needs
+read-requires : tie.Need-read-requires
+read-requires c κs = search needs
+
+number-requires : tie.Need-number-requires
+number-requires c κs = c .read .ensures .tidy
 
 refused-requires : tie.Need-refused-requires
 refused-requires c κs = search needs
 
 returns : tie.Need-returns
 unfolding nameOf
-returns c = run-refused nameOut _ _ _ (c .before .before .before .number-card .ensures) _ (c .before .if1 .taken) _ (c .refused .ensures)
+returns c = run-refused nameOut _ _ _ _ _ (card-numbers _ _ _ (c .before .before .before .before .read .ensures) _ (c .before .before .before .number .ensures)) _ _ (card-answers nameOut _ _ _) (c .before .if1 .taken) _ (c .refused .ensures)
 
 renumbered-requires : tie.Need-renumbered-requires
-renumbered-requires c κs = ready _ _ _ (c .before .before .before .before .number-card .ensures) (c .before .before .if1 .left)
+renumbered-requires c κs = ready _ _ _ _ (card-numbers _ _ _ (c .before .before .before .before .before .read .ensures) _ (c .before .before .before .before .number .ensures)) (c .before .before .if1 .left)
 
 write-requires : tie.Need-write-requires
-write-requires c κs = nameable _ _ _ (c .before .before .before .before .before .before .number-card .ensures) (c .before .before .before .before .if1 .left) _ (c .before .renumbered .ensures .0) (c .before .renumbered .ensures .1)
+write-requires c κs = nameable _ _ _ _ (card-numbers _ _ _ (c .before .before .before .before .before .before .before .read .ensures) _ (c .before .before .before .before .before .before .number .ensures)) (c .before .before .before .before .if1 .left) _ (c .before .renumbered .ensures .0) (c .before .renumbered .ensures .1)
 
 answered-requires : tie.Need-answered-requires
 answered-requires c κs = search needs
@@ -35,18 +39,19 @@ same-length c = search needs
 returns-2 : tie.Need-returns-2
 unfolding nameOf
 returns-2 c =
-    let N = c .before .before .before .before .before .before .before .before .before .before .number-card .ensures in
+    let N = card-numbers _ _ _ (c .before .before .before .before .before .before .before .before .before .before .before .read .ensures) _ (c .before .before .before .before .before .before .before .before .before .before .number .ensures) in
     let z = c .before .before .before .before .before .before .before .before .if1 .left in
     let u = c .before .before .before .before .before .renumbered .ensures in
-    let a = c .before .before .before .before .before .before .before .before .before .before .before .before .before .args in
-    run-written nameOut _ _ _ N _ z _ _
-    (subst (λ (l : List ℕ). Written l (a .out .now) (c .before .before .before .write .last .1 .0) (c .before .before .before .write .result)) (name-is _ _ _ N z _ (u .0) (u .1)) (c .before .before .before .write .ensures)) _ (c .answered .ensures)
+    let a = c .before .before .before .before .before .before .before .before .before .before .before .before .before .before .args in
+    run-written nameOut _ _ _ _ _ N _ _ (card-answers nameOut _ _ _) z _ _
+    (subst (λ (l : List ℕ). Written l (a .out .now) (c .before .before .before .write .last .1 .0) (c .before .before .before .write .result)) (name-is _ _ _ _ N z _ (u .0) (u .1)) (c .before .before .before .write .ensures)) _ (c .answered .ensures)
 
 pub name-of-card-spec : {M : Type 1} → statement M
 name-of-card-spec =
     tie.close
     (tie.spec
-    number-card-requires
+    read-requires
+    number-requires
     refused-requires
     returns
     renumbered-requires
