@@ -1,2 +1,6 @@
 pub mod Open
 pub mod Clean
+pub mod AsText
+pub mod Hydrogens
+pub mod HeavyPlaces
+pub mod Folding
