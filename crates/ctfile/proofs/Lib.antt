@@ -4,3 +4,4 @@ pub mod AsText
 pub mod Hydrogens
 pub mod HeavyPlaces
 pub mod Folding
+pub mod Redrawing
