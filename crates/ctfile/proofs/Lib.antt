@@ -5,3 +5,4 @@ pub mod Hydrogens
 pub mod HeavyPlaces
 pub mod Folding
 pub mod Redrawing
+pub mod Same
