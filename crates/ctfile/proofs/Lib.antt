@@ -6,3 +6,4 @@ pub mod HeavyPlaces
 pub mod Folding
 pub mod Redrawing
 pub mod Same
+pub mod Kept
