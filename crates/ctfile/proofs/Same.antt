@@ -33,7 +33,8 @@ drawing-same σ d d′ e e′ C C′ E allowance room =
     (ap₂ (λ (k : ℕ) (o : List ℕ). cond (ltb allowance k) (refused 9 0) (inRoom room 0 k o)) (leafCount-renumbered rule1 rule1-law F) (nameOut-same F some))
 
 -- a file that is short enough and whose lines are sound is answered by its drawing
-pub file-answered : (file : List ℕ) → WellFormedFile file → (allowance room : ℕ) → nameOfMolfile file allowance room ≡ nameOfDrawing (drawingOf file) allowance room
+pub file-answered : (file : List ℕ) → WellFormedFile file → (allowance room : ℕ)
+    → nameOfMolfile file allowance room ≡ nameOfDrawing (drawingOf file) allowance room
 unfolding nameOfMolfile
 file-answered file w allowance room = rw (le-ltb mostFile (length file) (w .short), w .lines)
 
