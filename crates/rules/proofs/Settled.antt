@@ -28,7 +28,7 @@ settled a lent r r′ p q = λ i. record {
   lent = (p .lent ∙ sym (q .lent)) i;
 }
 
-refused-keeps : (n p : ℕ) (lent : List ℕ) → KeptBy (refused (suc n) p) lent
+pub refused-keeps : (n p : ℕ) (lent : List ℕ) → KeptBy (refused (suc n) p) lent
 unfolding atExit
 refused-keeps n p lent = record { whole = refl; untouched = λ ne. refl; nothing = λ ne. (refl, refl); place = λ e. absurd (omega arith) }
 
@@ -49,7 +49,7 @@ inRoom-keeps p k out lent = go (ltb (length lent) (length out)) refl
     go true e = refused-keeps 9 p lent
     go false e = accepted-keeps k out lent (ltb-false (length lent) (length out) e)
 
-numbered-keeps : (out : Molecule → List ℕ) (allowance : ℕ) (M : Molecule) (lent : List ℕ) → KeptBy (numbered out allowance (length lent) M) lent
+pub numbered-keeps : (out : Molecule → List ℕ) (allowance : ℕ) (M : Molecule) (lent : List ℕ) → KeptBy (numbered out allowance (length lent) M) lent
 unfolding numbered
 numbered-keeps out allowance M lent = go (ltb allowance (leafCount rule1 M))
   where
