@@ -1,4 +1,4 @@
-/* 01, "Numbers of refusal": the four answers, in the order of refusals. */
+/* 01, "Numbers of refusal", and 02, §1: the five answers, in the order of refusals. */
 #include "../c/libc.h"
 #include "molecule.h"
 #include "reference.h"
@@ -25,17 +25,41 @@ static int read_and_number(const uint8_t *card, size_t length, uint16_t allowanc
     return refusal != ACCEPTED ? refusal : number_molecule(m, allowance, numbering);
 }
 
+/* The name of a molecule that was read without a refusal. */
+static struct scallopgrid_answer name_molecule(const struct molecule *m, uint16_t allowance, uint8_t *out, size_t room)
+{
+    struct molecule canonical;
+    struct numbering numbering;
+    uint8_t name[MOST_NAME];
+    int refusal = number_molecule(m, allowance, &numbering);
+    if (refusal != ACCEPTED)
+        return refuse(refusal, 0);
+    renumber_molecule(m, numbering.rank, &canonical);
+    return hand_over(name, write_name(&canonical, name), numbering.leaves, 0, out, room);
+}
+
 struct scallopgrid_answer reference_name(const uint8_t *in, size_t in_length, uint16_t allowance, uint8_t *out,
                                          size_t room)
 {
-    struct molecule m, canonical;
-    struct numbering numbering;
-    uint8_t name[MOST_NAME];
-    int refusal = read_and_number(in, in_length, allowance, &m, &numbering);
-    if (refusal != ACCEPTED)
-        return refuse(refusal, 0);
-    renumber_molecule(&m, numbering.rank, &canonical);
-    return hand_over(name, write_name(&canonical, name), numbering.leaves, 0, out, room);
+    struct molecule m;
+    int refusal = read_card(in, in_length, &m);
+    return refusal != ACCEPTED ? refuse(refusal, 0) : name_molecule(&m, allowance, out, room);
+}
+
+struct scallopgrid_answer reference_molfile_name(const uint8_t *in, size_t in_length, uint16_t allowance, uint8_t *out,
+                                                 size_t room)
+{
+    struct molecule m;
+    size_t place;
+    int refusal = read_molfile(in, in_length, &m, &place);
+    return refusal != ACCEPTED ? refuse(refusal, place) : name_molecule(&m, allowance, out, room);
+}
+
+size_t reference_folded(const uint8_t *in, size_t in_length, uint8_t *card)
+{
+    struct molecule m;
+    size_t place;
+    return read_molfile(in, in_length, &m, &place) == ACCEPTED ? write_card(&m, card) : 0;
 }
 
 struct scallopgrid_answer reference_canonical(const uint8_t *in, size_t in_length, uint16_t allowance, uint8_t *out,

@@ -1,5 +1,5 @@
 /* A molecule as document 01 describes it, and what the reference does with one.
- * Written from document 01 and the readings of it that docs/DECISIONS.md lists, not from the code of crates/. */
+ * Written from documents 01 and 02 and the readings of them that docs/DECISIONS.md lists, not from the code of crates/. */
 #ifndef REFERENCE_MOLECULE_H
 #define REFERENCE_MOLECULE_H
 
@@ -33,7 +33,8 @@ enum {
     H_RULE = 7,
     NOT_CONNECTED = 8,
     OVER_ALLOWANCE = 9,
-    NO_ROOM = 10
+    NO_ROOM = 10,
+    BROKEN_LINE = 11
 };
 
 struct molecule {
@@ -65,6 +66,9 @@ size_t write_card(const struct molecule *m, uint8_t *out);
 
 /* text.c */
 int read_text(const uint8_t *text, size_t length, struct molecule *m, size_t *place);
+
+/* molfile.c: 02, §1 */
+int read_molfile(const uint8_t *file, size_t length, struct molecule *m, size_t *place);
 
 /* numbering.c */
 struct numbering {

@@ -1,4 +1,4 @@
-/* The four answers of document 01 by the reference, in the form of include/scallopgrid.h. */
+/* The five answers of documents 01 and 02 by the reference, in the form of include/scallopgrid.h. */
 #ifndef REFERENCE_H
 #define REFERENCE_H
 
@@ -11,5 +11,10 @@ struct scallopgrid_answer reference_canonical(const uint8_t *in, size_t in_lengt
                                               size_t room);
 struct scallopgrid_answer reference_marks(const uint8_t *in, size_t in_length, uint16_t allowance, uint8_t *out,
                                           size_t room);
+struct scallopgrid_answer reference_molfile_name(const uint8_t *in, size_t in_length, uint16_t allowance, uint8_t *out,
+                                                 size_t room);
+
+/* The card that a molfile folds to, at most SCALLOPGRID_MOST_CARD bytes; 0 if the file is refused before it is named. */
+size_t reference_folded(const uint8_t *in, size_t in_length, uint8_t *card);
 
 #endif
