@@ -61,9 +61,12 @@ static void every_room(struct input input, const struct vector *v)
 /* A pointer may be null where its length is 0. */
 static void null_pointers(void)
 {
+    static const uint8_t of_nothing[OPERATIONS] = {
+        [NAME] = SCALLOPGRID_BROKEN, [READ] = SCALLOPGRID_EMPTY, [CANON] = SCALLOPGRID_BROKEN,
+        [MARKS] = SCALLOPGRID_BROKEN, [MOL] = SCALLOPGRID_BROKEN_LINE};
     for (unsigned o = 0; o < OPERATIONS; o++) {
         struct request nothing = {.operation = (enum operation)o, .allowance = 9};
-        struct scallopgrid_answer wanted = {.refusal = o == READ ? SCALLOPGRID_EMPTY : SCALLOPGRID_BROKEN};
+        struct scallopgrid_answer wanted = {.refusal = of_nothing[o]};
         calls++;
         if (!same_numbers(ask_library(&nothing, NULL, 0), wanted))
             fail(&nothing, 0, "other numbers with null pointers");

@@ -2,7 +2,7 @@
 
 #include "libc.h"
 
-enum { PAGE = 4096, PAGES = 1 + MOST_LENT / PAGE };
+enum { PAGE = 4096, PAGES = 1 + MOST_INPUT / PAGE };
 
 struct input make_input(void)
 {

@@ -4,7 +4,8 @@
 
 #include "operations.h"
 
-enum { GUARD = 64, MOST_LENT = 8192 };
+/* the longest output lent, and the longest input: a molfile, and some bytes past its limit */
+enum { GUARD = 64, MOST_LENT = 8192, MOST_INPUT = 65600 };
 
 /* An output between guard bytes; every byte of it has a known value before a call. */
 struct output {

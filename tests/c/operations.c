@@ -2,7 +2,7 @@
 
 #include "libc.h"
 
-const char *const operation_words[OPERATIONS] = {"name", "read", "canon", "marks"};
+const char *const operation_words[OPERATIONS] = {"name", "read", "canon", "marks", "mol"};
 
 struct scallopgrid_answer ask_library(const struct request *request, uint8_t *out, size_t room)
 {
@@ -10,7 +10,8 @@ struct scallopgrid_answer ask_library(const struct request *request, uint8_t *ou
     case NAME: return scallopgrid_name(request->in, request->in_length, request->allowance, out, room);
     case READ: return scallopgrid_card(request->in, request->in_length, out, room);
     case CANON: return scallopgrid_canonical(request->in, request->in_length, request->allowance, out, room);
-    default: return scallopgrid_marks(request->in, request->in_length, request->allowance, out, room);
+    case MARKS: return scallopgrid_marks(request->in, request->in_length, request->allowance, out, room);
+    default: return scallopgrid_molfile_name(request->in, request->in_length, request->allowance, out, room);
     }
 }
 

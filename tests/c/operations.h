@@ -1,11 +1,11 @@
-/* The four functions under one roof, for the library and for the reference. */
+/* The five functions under one roof, for the library and for the reference. */
 #ifndef TESTS_OPERATIONS_H
 #define TESTS_OPERATIONS_H
 
 #include "../../include/scallopgrid.h"
 
-enum { OPERATIONS = 4 };
-enum operation { NAME, READ, CANON, MARKS };
+enum { OPERATIONS = 5 };
+enum operation { NAME, READ, CANON, MARKS, MOL };
 
 /* What one call is given, but for the lent bytes. */
 struct request {
