@@ -1,4 +1,4 @@
-/* Bytes that are a card or a text, or were one before they were damaged. */
+/* Bytes that are a card, a text or a molfile, or were one before they were damaged. */
 #ifndef FUZZ_BYTES_H
 #define FUZZ_BYTES_H
 
@@ -7,7 +7,7 @@
 
 #include "chance.h"
 
-enum { MOST_BYTES = 8192 };
+enum { MOST_BYTES = 66000 };
 
 struct bytes {
     size_t length;
@@ -15,6 +15,7 @@ struct bytes {
 };
 
 void put(struct bytes *b, uint8_t byte);
+void put_text(struct bytes *b, const char *s);
 
 /* damage.c: one byte changed, left out or put in, the end cut off, or bytes after it */
 void damage(struct chance *c, struct bytes *b);

@@ -18,3 +18,15 @@ int once_in(struct chance *c, unsigned n)
 {
     return below(c, n) == 0;
 }
+
+void shuffle(struct chance *c, uint16_t list[], unsigned n)
+{
+    for (unsigned i = 0; i < n; i++)
+        list[i] = (uint16_t)i;
+    for (unsigned i = n; i > 1; i--) {
+        unsigned j = below(c, i);
+        uint16_t kept = list[i - 1];
+        list[i - 1] = list[j];
+        list[j] = kept;
+    }
+}

@@ -12,5 +12,7 @@ struct chance {
 unsigned below(struct chance *c, unsigned n);
 /* true once in n times */
 int once_in(struct chance *c, unsigned n);
+/* the numbers below n, in any order */
+void shuffle(struct chance *c, uint16_t list[], unsigned n);
 
 #endif

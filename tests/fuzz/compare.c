@@ -11,7 +11,8 @@ static struct scallopgrid_answer ask_reference(const struct request *request, ui
     case NAME: return reference_name(request->in, request->in_length, request->allowance, out, room);
     case READ: return reference_card(request->in, request->in_length, out, room);
     case CANON: return reference_canonical(request->in, request->in_length, request->allowance, out, room);
-    default: return reference_marks(request->in, request->in_length, request->allowance, out, room);
+    case MARKS: return reference_marks(request->in, request->in_length, request->allowance, out, room);
+    default: return reference_molfile_name(request->in, request->in_length, request->allowance, out, room);
     }
 }
 

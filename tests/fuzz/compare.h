@@ -8,7 +8,7 @@ enum { LENT = 4096 };
 
 struct tally {
     unsigned long inputs;
-    unsigned long by_refusal[11];
+    unsigned long by_refusal[12];
 };
 
 struct outcome {

@@ -7,6 +7,12 @@ void put(struct bytes *b, uint8_t byte)
         b->at[b->length++] = byte;
 }
 
+void put_text(struct bytes *b, const char *s)
+{
+    for (; *s != 0; s++)
+        put(b, (uint8_t)*s);
+}
+
 /* What stands in texts, and bytes next to it. */
 static uint8_t some_byte(struct chance *c)
 {
@@ -48,6 +54,6 @@ void damage(struct chance *c, struct bytes *b)
 void random_bytes(struct chance *c, struct bytes *b)
 {
     b->length = 0;
-    for (unsigned n = below(c, once_in(c, 20) ? MOST_BYTES : 40); n > 0; n--)
+    for (unsigned n = below(c, once_in(c, 20) ? 8192 : 40); n > 0; n--)
         put(b, some_byte(c));
 }

@@ -51,21 +51,9 @@ void decorate(struct chance *c, struct drawing *d)
         d->bond[i][2] = (uint8_t)(codes == 1 ? code : 1 + below(c, codes));
 }
 
-static void shuffle(struct chance *c, uint8_t list[], unsigned n)
+void renumber(struct chance *c, const struct drawing *d, struct drawing *other, uint16_t to[])
 {
-    for (unsigned i = 0; i < n; i++)
-        list[i] = (uint8_t)i;
-    for (unsigned i = n; i > 1; i--) {
-        unsigned j = below(c, i);
-        uint8_t kept = list[i - 1];
-        list[i - 1] = list[j];
-        list[j] = kept;
-    }
-}
-
-void renumber(struct chance *c, const struct drawing *d, struct drawing *other, uint8_t to[])
-{
-    uint8_t order[DRAWN_BONDS];
+    uint16_t order[DRAWN_BONDS];
     shuffle(c, to, d->atoms);
     shuffle(c, order, d->bonds);
     other->atoms = d->atoms;
@@ -77,8 +65,8 @@ void renumber(struct chance *c, const struct drawing *d, struct drawing *other, 
     for (unsigned i = 0; i < d->bonds; i++) {
         const uint8_t *bond = d->bond[order[i]];
         unsigned turned = below(c, 2);
-        other->bond[i][0] = to[bond[turned]];
-        other->bond[i][1] = to[bond[1 - turned]];
+        other->bond[i][0] = (uint8_t)to[bond[turned]];
+        other->bond[i][1] = (uint8_t)to[bond[1 - turned]];
         other->bond[i][2] = bond[2];
     }
 }

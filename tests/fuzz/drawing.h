@@ -28,7 +28,7 @@ void join(struct drawing *d, unsigned a, unsigned b);
 /* gives a skeleton kinds, hydrogens and codes, within all limits */
 void decorate(struct chance *c, struct drawing *d);
 /* the same molecule with its atoms renumbered, its bonds shuffled and some turned round; to[a] is the new number of a */
-void renumber(struct chance *c, const struct drawing *d, struct drawing *other, uint8_t to[]);
+void renumber(struct chance *c, const struct drawing *d, struct drawing *other, uint16_t to[]);
 /* faults.c: one fault, or more hydrogens, atoms or bonds than the limits allow */
 void spoil(struct chance *c, struct drawing *d);
 /* drawing.c: the card of a drawing, its length at most DRAWN_CARD */

@@ -1,15 +1,18 @@
-/* The differential run: generated cards and texts, library and reference compared in every number and byte. */
+/* The differential run: generated cards, texts and molfiles, library and reference compared in every number and byte. */
 #include "../c/libc.h"
+#include "../reference/reference.h"
 #include "bytes.h"
 #include "compare.h"
 #include "drawing.h"
+#include "molfile.h"
 
 enum { SECONDS_BETWEEN_LINES = 10, LOOK_AT_CLOCK_EVERY = 64 };
 
 struct run {
     struct chance chance;
     struct tally tally;
-    struct bytes bytes;
+    struct bytes bytes, other_bytes;
+    struct molfile molfile, other_molfile;
     struct outcome outcome, second;
 };
 
@@ -51,7 +54,8 @@ static void read_back(struct run *r, const struct request *named, size_t room)
 static void renumbered(struct run *r, const struct drawing *d, const struct request *request, size_t room)
 {
     struct drawing other;
-    uint8_t to[DRAWN_ATOMS], card[DRAWN_CARD], moved[LENT];
+    uint16_t to[DRAWN_ATOMS];
+    uint8_t card[DRAWN_CARD], moved[LENT];
     struct request second = *request;
     renumber(&r->chance, d, &other, to);
     second.in = card;
@@ -142,6 +146,90 @@ static void text(struct run *r)
         about_the_length(r, &request, r->outcome.answer.length);
 }
 
+/* A molfile and the card that it folds to get the same name. */
+static void folded(struct run *r, const struct request *request, size_t room)
+{
+    uint8_t card[SCALLOPGRID_MOST_CARD];
+    struct request of_card = {NAME, request->allowance, card, reference_folded(request->in, request->in_length, card)};
+    if (of_card.in_length == 0)
+        return;
+    compare(&r->tally, &of_card, room, &r->second);
+    must_agree(request, &r->outcome, &of_card, &r->second, room);
+}
+
+/* 02: "Renumbering the file's atoms must not change the name." Nor does another style of writing. */
+static void renumbered_molfile(struct run *r, const struct request *request, size_t room)
+{
+    struct request second = *request;
+    renumber_molfile(&r->chance, &r->molfile, &r->other_molfile);
+    write_molfile(&r->chance, &r->other_molfile, &r->other_bytes);
+    second.in = r->other_bytes.at;
+    second.in_length = r->other_bytes.length;
+    compare(&r->tally, &second, room, &r->second);
+    must_agree(request, &r->outcome, &second, &r->second, room);
+}
+
+static void sound_molfile(struct run *r)
+{
+    struct chance *c = &r->chance;
+    struct drawing d;
+    size_t room = some_room(c);
+    draw_skeleton(c, &d);
+    decorate(c, &d);
+    list_drawing(c, &d, &r->molfile);
+    write_molfile(c, &r->molfile, &r->bytes);
+    struct request request = {MOL, some_allowance(c), r->bytes.at, r->bytes.length};
+    compare(&r->tally, &request, room, &r->outcome);
+    folded(r, &request, room);
+    if (once_in(c, 2))
+        renumbered_molfile(r, &request, room);
+    if (r->outcome.answer.refusal != SCALLOPGRID_ACCEPTED)
+        return;
+    if (once_in(c, 4))
+        read_back(r, &request, room);
+    if (once_in(c, 8))
+        about_the_length(r, &request, r->outcome.answer.length);
+}
+
+/* What a faulty molfile lists: atoms and bonds with a fault, at a limit or past it, or sound. */
+static void list_something(struct run *r)
+{
+    struct chance *c = &r->chance;
+    struct drawing d;
+    draw_skeleton(c, &d);
+    decorate(c, &d);
+    if (once_in(c, 3))
+        spoil(c, &d);
+    list_drawing(c, &d, &r->molfile);
+    if (once_in(c, 8))
+        limit_molfile(c, &r->molfile);
+    if (once_in(c, 2))
+        spoil_molfile(c, &r->molfile);
+    if (once_in(c, 2)) {
+        r->other_molfile = r->molfile;
+        renumber_molfile(c, &r->other_molfile, &r->molfile);
+    }
+}
+
+static void faulty_molfile(struct run *r)
+{
+    struct chance *c = &r->chance;
+    size_t room = some_room(c);
+    list_something(r);
+    write_molfile(c, &r->molfile, &r->bytes);
+    if (once_in(c, 2))
+        damage_lines(c, &r->bytes);
+    if (once_in(c, 16))
+        damage_lines(c, &r->bytes);
+    if (once_in(c, 60))
+        lengthen(c, &r->bytes);
+    if (once_in(c, 60))
+        random_bytes(c, &r->bytes);
+    struct request request = {MOL, some_allowance(c), r->bytes.at, r->bytes.length};
+    compare(&r->tally, &request, room, &r->outcome);
+    folded(r, &request, room);
+}
+
 static long seconds_now(void)
 {
     struct timespec now;
@@ -152,12 +240,16 @@ static long seconds_now(void)
 static void some_inputs(struct run *r)
 {
     for (int i = 0; i < LOOK_AT_CLOCK_EVERY; i++) {
-        switch (below(&r->chance, 8)) {
+        switch (below(&r->chance, 12)) {
         case 0:
         case 1:
         case 2: sound_card(r); break;
         case 3:
         case 4: faulty_card(r); break;
+        case 5: sound_molfile(r); break;
+        case 6:
+        case 7:
+        case 8: faulty_molfile(r); break;
         default: text(r); break;
         }
     }
@@ -165,8 +257,8 @@ static void some_inputs(struct run *r)
 
 static void print_tally(const struct tally *tally)
 {
-    printf("by refusal, 0 to 10:");
-    for (int i = 0; i <= 10; i++)
+    printf("by refusal, 0 to 11:");
+    for (int i = 0; i <= 11; i++)
         printf(" %lu", tally->by_refusal[i]);
     printf("\n");
 }

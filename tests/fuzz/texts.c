@@ -2,12 +2,6 @@
 #include "../c/libc.h"
 #include "bytes.h"
 
-static void put_text(struct bytes *b, const char *s)
-{
-    for (; *s != 0; s++)
-        put(b, (uint8_t)*s);
-}
-
 static void put_number(struct bytes *b, unsigned n)
 {
     if (n >= 10)
