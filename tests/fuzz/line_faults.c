@@ -86,6 +86,14 @@ static void spoil_byte_of_field(struct chance *c, struct bytes *b)
     put_columns(b, some_line(c, b), from[below(c, 4)] + below(c, 9), &byte, 1);
 }
 
+/* Three bytes where a symbol stands. */
+static void spoil_symbol(struct chance *c, struct bytes *b)
+{
+    static const char symbols[][4] = {"C\0 ", "C\0\0", "\0C ", "Cl\0", "H\0 ", "C\t ", "C\r ", "cl ",
+                                      "CL ",  " C ",   "  C",  " Cl",  "C l",  "   ",  " H ",  "D  "};
+    put_columns(b, some_line(c, b), 32, symbols[below(c, 16)], 3);
+}
+
 static void spoil_counts(struct chance *c, struct bytes *b)
 {
     static const char *const versions[] = {" V2000", "V2000 ", " V3000", " v2000", "V 2000",
@@ -96,9 +104,9 @@ static void spoil_counts(struct chance *c, struct bytes *b)
         put_columns(b, line, 34, versions[below(c, 10)], 6);
     } else {
         /* one more or one less, where the last digit allows */
-        put_columns(b, line, column, "", 0);
-        if (line + column + 1 < b->length)
-            b->at[line + column + 1] = (uint8_t)(b->at[line + column + 1] + (once_in(c, 2) ? 1 : -1));
+        size_t digit = line + column + 1;
+        if (digit < b->length)
+            b->at[digit] = (uint8_t)(b->at[digit] + (once_in(c, 2) ? 1 : -1));
     }
 }
 
@@ -159,14 +167,15 @@ static void spoil_ending(struct chance *c, struct bytes *b)
 
 void damage_lines(struct chance *c, struct bytes *file)
 {
-    switch (below(c, 8)) {
+    switch (below(c, 9)) {
     case 0: spoil_counts(c, file); break;
     case 1: spoil_line(c, file); break;
     case 2: spoil_ending(c, file); break;
     case 3: damage(c, file); break;
     case 4: spoil_byte_of_field(c, file); break;
-    case 5:
-    case 6: add_line(c, file); break;
+    case 5: spoil_symbol(c, file); break;
+    case 6:
+    case 7: add_line(c, file); break;
     default: spoil_field(c, file); break;
     }
 }

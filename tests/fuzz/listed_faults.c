@@ -53,7 +53,7 @@ void spoil_molfile(struct chance *c, struct molfile *m)
     case 1: change_symbol(c, m); break;
     case 2: list_bond(m, 1 + below(c, m->atoms), 1 + below(c, m->atoms), 1 + below(c, 2)); break;
     case 3:
-        m->bonds = 0;
+        m->bonds = once_in(c, 2) ? 0 : m->bonds;
         for (unsigned a = below(c, 2); a < m->atoms; a++)
             memcpy(m->symbol[a], "H", 2);
         m->atoms = once_in(c, 2) ? 0 : m->atoms;
@@ -79,12 +79,15 @@ static void hang(struct molfile *m, unsigned on, unsigned atoms, const char *sym
         list_bond(m, on, list_atom(m, symbol), 1);
 }
 
-/* Bonds between atoms 20 apart; with 17 of them a chain of 64 has 80 bonds. */
-static void list_rings(struct molfile *m, unsigned rings)
+/* Bonds between atoms 20 apart; with 17 of them a chain of 64 has 80 bonds. Whether a bond of an H to an atom that is
+ * not there counts among them shows only here. */
+static void list_rings(struct chance *c, struct molfile *m, unsigned rings)
 {
     list_chain(m, 64);
     for (unsigned i = 0; i < rings; i++)
         list_bond(m, 2 * i + 1, 2 * i + 21, 1);
+    if (once_in(c, 4))
+        list_bond(m, list_atom(m, once_in(c, 2) ? "H" : "C"), 999, 1);
 }
 
 void limit_molfile(struct chance *c, struct molfile *m)
@@ -92,7 +95,7 @@ void limit_molfile(struct chance *c, struct molfile *m)
     m->atoms = m->bonds = 0;
     switch (below(c, 5)) {
     case 0: list_chain(m, 63 + below(c, 4)); break;
-    case 1: list_rings(m, 16 + below(c, 4)); break;
+    case 1: list_rings(c, m, 16 + below(c, 4)); break;
     case 2:
         list_chain(m, 33);
         for (unsigned a = 1; a <= 31; a++)

@@ -6,7 +6,8 @@ enum { COLUMNS = 80 };
 
 /* How one file is written throughout. */
 struct style {
-    const char *line_end;
+    /* how lines end: 0 LF, 1 CR and LF, 2 now so, now so */
+    unsigned endings;
     /* 0 blanks before a number, 1 blanks behind it, 2 zeros before it */
     unsigned numbers;
     /* what stands in the columns that are skipped: 0 what most writers put there, 1 blanks, 2 anything */
@@ -24,7 +25,7 @@ static struct style some_style(struct chance *c)
     static const unsigned of_atoms[] = {34, 35, 36, 37, 39, 42, 69, 69, 69, COLUMNS};
     static const unsigned of_bonds[] = {9, 10, 12, 21, 21, COLUMNS};
     return (struct style){
-        .line_end = once_in(c, 4) ? "\r\n" : "\n",
+        .endings = once_in(c, 3) ? below(c, 3) : 0,
         .numbers = once_in(c, 3) ? below(c, 3) : 0,
         .skipped = once_in(c, 3) ? below(c, 3) : 0,
         .atom_columns = of_atoms[below(c, 10)],
@@ -68,11 +69,18 @@ static void put_number_at(const struct style *s, struct line *l, unsigned column
         memcpy(at + zeros, digits + zeros, 3 - zeros);
 }
 
-static void end_line(const struct style *s, const struct line *l, unsigned columns, struct bytes *file)
+static void put_ending(struct chance *c, const struct style *s, struct bytes *file)
+{
+    int with_cr = s->endings == 2 ? once_in(c, 2) : s->endings == 1;
+    put_text(file, with_cr ? "\r\n" : "\n");
+}
+
+static void end_line(struct chance *c, const struct style *s, const struct line *l, unsigned columns,
+                     struct bytes *file)
 {
     for (unsigned i = 0; i < columns; i++)
         put(file, l->at[i]);
-    put_text(file, s->line_end);
+    put_ending(c, s, file);
 }
 
 static void write_headers(struct chance *c, const struct style *s, struct bytes *file)
@@ -84,7 +92,7 @@ static void write_headers(struct chance *c, const struct style *s, struct bytes 
                 put(file, any_byte(c));
         else
             put_text(file, usual[below(c, 6)]);
-        put_text(file, s->line_end);
+        put_ending(c, s, file);
     }
 }
 
@@ -95,7 +103,7 @@ static void write_counts(struct chance *c, const struct style *s, const struct m
     put_number_at(s, &l, 1, m->atoms);
     put_number_at(s, &l, 4, m->bonds);
     put_at(&l, 34, s->numbers == 1 ? "V2000" : " V2000", 6);
-    end_line(s, &l, 39 + (s->skipped == 2 ? below(c, 30) : 0), file);
+    end_line(c, s, &l, 39 + (s->skipped == 2 ? below(c, 30) : 0), file);
 }
 
 static void write_atom(struct chance *c, const struct style *s, const char *symbol, struct bytes *file)
@@ -109,7 +117,7 @@ static void write_atom(struct chance *c, const struct style *s, const char *symb
     /* a sign cut off from its digit would break the line */
     put_at(&l, 35, zeros[below(c, s->atom_columns == 35 ? 6 : 8)], 2);
     put_number_at(s, &l, 37, 0);
-    end_line(s, &l, s->atom_columns, file);
+    end_line(c, s, &l, s->atom_columns, file);
 }
 
 static void write_bond(struct chance *c, const struct style *s, const uint16_t bond[3], struct bytes *file)
@@ -118,7 +126,7 @@ static void write_bond(struct chance *c, const struct style *s, const uint16_t b
     begin_line(c, s, &l, "  1  2  1  0  0  0  0");
     for (unsigned i = 0; i < 3; i++)
         put_number_at(s, &l, 1 + 3 * i, bond[i]);
-    end_line(s, &l, s->bond_columns, file);
+    end_line(c, s, &l, s->bond_columns, file);
 }
 
 /* Entries of value 0, up to eight, and at times blanks behind them. */
@@ -135,7 +143,7 @@ static void write_property(struct chance *c, const struct style *s, unsigned ato
         put_number_at(s, &l, 11 + 8 * i, 1 + below(c, atoms));
         put_at(&l, 15 + 8 * i, zeros[below(c, 8)], 3);
     }
-    end_line(s, &l, 9 + 8 * entries + (once_in(c, 4) ? below(c, 8) : 0), file);
+    end_line(c, s, &l, 9 + 8 * entries + (once_in(c, 4) ? below(c, 8) : 0), file);
 }
 
 /* "`M  END`, where reading ends": after it anything, or not even an end of the line. */
@@ -146,7 +154,7 @@ static void write_end(struct chance *c, const struct style *s, struct bytes *fil
         put(file, ' ');
     if (once_in(c, 6))
         return;
-    put_text(file, s->line_end);
+    put_ending(c, s, file);
     if (once_in(c, 6))
         put_text(file, "> <name>\nethanol\n\n$$$$\n");
     if (once_in(c, 6))
