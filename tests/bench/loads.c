@@ -4,11 +4,17 @@
 
 enum { CARBON = 6, FLUORINE = 9, ALLOWANCE = 4096, MOST = 64 };
 
-void load_named_cards(struct load *load, const struct vectors *vectors)
+static int is_sound(struct scallopgrid_answer answer)
+{
+    return answer.refusal == SCALLOPGRID_ACCEPTED || answer.refusal == SCALLOPGRID_OVER_ALLOWANCE ||
+           answer.refusal == SCALLOPGRID_NO_ROOM;
+}
+
+void load_named(struct load *load, const struct vectors *vectors, enum operation operation)
 {
     load->count = 0;
     for (size_t i = 0; i < vectors->count && load->count < MOST_REQUESTS; i++)
-        if (vectors->all[i].request.operation == NAME) {
+        if (vectors->all[i].request.operation == operation && is_sound(vectors->all[i].answer)) {
             struct request *request = &load->requests[load->count++];
             *request = vectors->all[i].request;
             request->allowance = ALLOWANCE;
@@ -87,15 +93,25 @@ void load_perfluorohexane(struct load *load)
     load_card(load, &pen, ALLOWANCE);
 }
 
-void load_chain(struct load *load)
+static void load_carbons(struct load *load, unsigned carbons, uint8_t hydrogens)
 {
     struct pen pen = {0};
-    for (unsigned c = 0; c < 64; c++) {
-        add_atom(&pen, CARBON, 0);
+    for (unsigned c = 0; c < carbons; c++) {
+        add_atom(&pen, CARBON, hydrogens);
         if (c > 0)
             add_bond(&pen, c - 1, c);
     }
     load_card(load, &pen, ALLOWANCE);
+}
+
+void load_chain(struct load *load)
+{
+    load_carbons(load, 64, 0);
+}
+
+void load_alkane(struct load *load, unsigned carbons)
+{
+    load_carbons(load, carbons, 2);
 }
 
 /* A binary tree of 63 atoms: more leaves than any allowance. */

@@ -55,8 +55,8 @@ static void note(struct request request)
         deepest[request.operation] = depth;
 }
 
-/* A card to each function that takes one. */
-static void note_card(const struct load *load)
+/* A card to each function that takes one, then the molfile of it. */
+static void note_card(struct load *load)
 {
     struct request request = load->requests[0];
     static const enum operation of_cards[] = {NAME, CANON, MARKS};
@@ -64,6 +64,8 @@ static void note_card(const struct load *load)
         request.operation = of_cards[i];
         note(request);
     }
+    turn_into_molfile(load, 65536, WITH_PROPERTIES);
+    note(load->requests[0]);
 }
 
 static struct load load;
@@ -71,6 +73,8 @@ static struct load load;
 static void worst_inputs(void)
 {
     load_chain(&load);
+    note_card(&load);
+    load_alkane(&load, 64);
     note_card(&load);
     load_hubs(&load, 2000);
     note_card(&load);
@@ -80,19 +84,27 @@ static void worst_inputs(void)
     note_card(&load);
     load_texts(&load, 4096);
     note(load.requests[0]);
+    load_crowded_molfile(&load);
+    note(load.requests[0]);
+}
+
+static void one_file(const char *requests, const char *answers)
+{
+    struct vectors vectors = read_vectors(requests, answers);
+    for (size_t i = 0; i < vectors.count; i += 16)
+        note(vectors.all[i].request);
 }
 
 int main(int argc, char **argv)
 {
     int over = 0;
-    if (argc != 3) {
-        printf("usage: stack REQUESTS ANSWERS\n");
+    if (argc < 3 || argc % 2 == 0) {
+        printf("usage: stack REQUESTS ANSWERS ..\n");
         return 2;
     }
-    struct vectors vectors = read_vectors(argv[1], argv[2]);
     worst_inputs();
-    for (size_t i = 0; i < vectors.count; i += 16)
-        note(vectors.all[i].request);
+    for (int i = 1; i + 1 < argc; i += 2)
+        one_file(argv[i], argv[i + 1]);
     for (int o = 0; o < OPERATIONS; o++) {
         printf("%-6s %6zu bytes of stack\n", operation_words[o], deepest[o]);
         over |= deepest[o] >= 64 * 1024;
