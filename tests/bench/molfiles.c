@@ -3,7 +3,7 @@
 #include "../reference/molecule.h"
 #include "loads.h"
 
-/* What a file has beyond its molecule: bytes of the comment, property lines, columns more in each atom and bond line. */
+/* What a file has beyond its molecule: bytes of the comment, property lines, columns more in atom and bond lines. */
 struct filling {
     size_t comment, properties, columns;
 };

@@ -1,4 +1,4 @@
-/* The differential run: generated cards, texts and molfiles, library and reference compared in every number and byte. */
+/* The differential run: generated cards, texts and molfiles, library and reference compared in each number and byte. */
 #include "../c/libc.h"
 #include "../reference/reference.h"
 #include "bytes.h"

@@ -60,7 +60,8 @@ static void put_at(struct line *l, unsigned column, const char *text, unsigned c
 static void put_number_at(const struct style *s, struct line *l, unsigned column, unsigned number)
 {
     uint8_t *at = l->at + column - 1;
-    uint8_t digits[3] = {(uint8_t)('0' + number / 100), (uint8_t)('0' + number / 10 % 10), (uint8_t)('0' + number % 10)};
+    uint8_t digits[3] = {(uint8_t)('0' + number / 100), (uint8_t)('0' + number / 10 % 10),
+                         (uint8_t)('0' + number % 10)};
     unsigned zeros = s->numbers == 2 ? 0 : number < 10 ? 2 : number < 100 ? 1 : 0;
     memset(at, ' ', 3);
     if (s->numbers == 1)
@@ -162,10 +163,10 @@ static void write_end(struct chance *c, const struct style *s, struct bytes *fil
             put(file, (uint8_t)below(c, 256));
 }
 
-/* Mostly none, at times as many as a long file has. */
+/* Mostly none, at times so many that the file is long; with 64 atoms and 128 H it stays below 65,536 bytes. */
 static unsigned some_properties(struct chance *c)
 {
-    return once_in(c, 200) ? 100 + below(c, 500) : once_in(c, 3) ? below(c, 4) : 0;
+    return once_in(c, 200) ? 100 + below(c, 280) : once_in(c, 3) ? below(c, 4) : 0;
 }
 
 void write_molfile(struct chance *c, const struct molfile *m, struct bytes *file)

@@ -1,5 +1,6 @@
 /* A molecule as document 01 describes it, and what the reference does with one.
- * Written from documents 01 and 02 and the readings of them that docs/DECISIONS.md lists, not from the code of crates/. */
+ * Written from documents 01 and 02, §1, and the readings of them that docs/DECISIONS.md lists, not from the code of
+ * crates/. */
 #ifndef REFERENCE_MOLECULE_H
 #define REFERENCE_MOLECULE_H
 
