@@ -18,6 +18,8 @@ int is_bonded(const struct drawing *d, unsigned a, unsigned b)
 
 void join(struct drawing *d, unsigned a, unsigned b)
 {
+    if (d->bonds == DRAWN_BONDS)
+        return;
     uint8_t *bond = d->bond[d->bonds++];
     bond[0] = (uint8_t)a;
     bond[1] = (uint8_t)b;

@@ -24,6 +24,7 @@ void draw_skeleton(struct chance *c, struct drawing *d);
 /* drawing.c */
 unsigned bonds_on(const struct drawing *d, unsigned atom);
 int is_bonded(const struct drawing *d, unsigned a, unsigned b);
+/* a single bond more; none once there is no room for it, which two faults in one drawing can reach */
 void join(struct drawing *d, unsigned a, unsigned b);
 /* gives a skeleton kinds, hydrogens and codes, within all limits */
 void decorate(struct chance *c, struct drawing *d);
