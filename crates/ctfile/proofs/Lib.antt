@@ -7,3 +7,6 @@ pub mod Folding
 pub mod Redrawing
 pub mod Same
 pub mod Kept
+pub mod Judging
+pub mod Checked
+pub mod Folds
