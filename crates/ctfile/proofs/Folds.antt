@@ -20,7 +20,7 @@ use Rattle.lists.proofs.Passed.{length-keep, count-keep}
 use Rattle.lists.proofs.Sums.{sum-le}
 use Rattle.lists.proofs.Upto.{of-upto, each-getD}
 use Rattle.molecule.specs.Bonds.{Bond, on, joins, codeIn}
-use Rattle.molecule.specs.Molecule.{bonded, neighbours}
+use Rattle.molecule.specs.Molecule.{neighbours}
 use Rattle.molecule.proofs.Sound.{Sound}
 use Rattle.molecule.proofs.Neighbours.{length-neighbours}
 use Rattle.molecule.proofs.Connected.{connected-linked}
@@ -30,7 +30,7 @@ use Rattle.sling.specs.Folded.{heavyPlaces}
 use Rattle.ctfile.specs.Filed.{Drawing}
 use Rattle.ctfile.specs.Drawings.{isH, toH, asRead, folded, drawingFault}
 use Rattle.ctfile.proofs.Clean.{Clean}
-use Rattle.ctfile.proofs.Judging.{Checks, checks}
+use Rattle.ctfile.proofs.Judging.{checks}
 use Rattle.ctfile.proofs.Checked.{clean, toH-ends}
 
 -- what a list holds at one of its places does not depend on what stands for none

@@ -10,3 +10,4 @@ pub mod Kept
 pub mod Judging
 pub mod Checked
 pub mod Folds
+pub mod AsCard
