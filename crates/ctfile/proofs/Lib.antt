@@ -1,4 +1,6 @@
 pub mod Open
+mod Files
+mod Examples
 pub mod Clean
 pub mod AsText
 pub mod Hydrogens
