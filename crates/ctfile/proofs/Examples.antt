@@ -5,7 +5,7 @@ use Prim.Native.Nat.{ℕ}
 use Prim.Native.String.{String}
 use lib.ListN.{length, take, replicate}
 use Rattle.lists.specs.Quoted.{bytesOf}
-use Rattle.rules.specs.Answers.{Answer, refused, accepted}
+use Rattle.rules.specs.Answers.{refused, accepted}
 use Rattle.ctfile.specs.Molfiles.{nameOfMolfile}
 use Rattle.ctfile.proofs.Files.{endedBy, fileOf, answer, brokenAfter, files}
 

@@ -1,6 +1,7 @@
 pub mod Open
 mod Files
 mod Examples
+mod Refused
 pub mod Clean
 pub mod AsText
 pub mod Hydrogens
