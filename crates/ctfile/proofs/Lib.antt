@@ -1,7 +1,7 @@
 pub mod Open
 mod Files
 mod Examples
-mod Refused
+mod RefusalExamples
 pub mod Clean
 pub mod AsText
 pub mod Hydrogens
