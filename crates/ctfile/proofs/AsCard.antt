@@ -21,7 +21,7 @@ use Rattle.ctfile.specs.Filed.{Drawing, drawingOf}
 use Rattle.ctfile.specs.Drawings.{folded, drawingFault}
 use Rattle.ctfile.specs.Molfiles.{mostFile, nameOfDrawing, nameOfMolfile}
 use Rattle.ctfile.specs.Promises.{WellFormedFile, AlwaysAsCard}
-use Rattle.ctfile.proofs.Folds.{folded-sound}
+use Rattle.ctfile.proofs.FoldedSound.{folded-sound}
 
 -- a sound molecule is answered as its card is
 card-named : (M : Molecule) → Sound M → (allowance room : ℕ) → numbered nameOut allowance room M ≡ nameOf (cardBytes M) allowance room

@@ -63,7 +63,8 @@ module _ (d : Drawing) (C : Checks d) where
   judged P f b m = let w = mem-place (d .bonds) b noBond m in subst P (w .2) (f (at (w .0)) (before (w .0)) (C .passes (w .0) (w .1)))
 
   -- what holds of a bond that passes, to an H or not
-  by-ends : (P : Type 0) (b : Bond) (bs : List Bond) → Passes d bs b → (toH d b ≡ true → KeepsH d bs b → P) → (toH d b ≡ false → Fits (length (d .kinds)) (keep heavy bs) b → P) → P
+  by-ends : (P : Type 0) (b : Bond) (bs : List Bond) → Passes d bs b → (toH d b ≡ true → KeepsH d bs b → P)
+      → (toH d b ≡ false → Fits (length (d .kinds)) (keep heavy bs) b → P) → P
   by-ends P b bs w f g = pick (toH d b) refl
     where
       pick : (s : Bool) → toH d b ≡ s → P
@@ -74,7 +75,7 @@ module _ (d : Drawing) (C : Checks d) where
   untaken : (p : ℕ) (bs : List Bond) → isH d p ≡ true → takenH d bs p ≡ false → count (map (on p) bs) ≡ 0
   untaken p bs e f = some-false-count (map (on p) bs) (rw e at f)
 
-  pub six : (p : ℕ) → count (map (on p) (keep heavy (d .bonds))) ≤ 6
+  six : (p : ℕ) → count (map (on p) (keep heavy (d .bonds))) ≤ 6
   six p = rw (count-keep heavy (on p) (d .bonds)) (count-bounded (λ b. heavy b && on p b) (d .bonds) noBond 6 room)
     where
       room : (k : ℕ) → k < length (d .bonds) → (heavy (at k) && on p (at k)) ≡ true → count (map (λ b. heavy b && on p b) (before k)) < 6
@@ -102,13 +103,14 @@ module _ (d : Drawing) (C : Checks d) where
     heavy-alike : toH d b ≡ false → heavy c ≡ true
     heavy-alike h = ap not (toH-ends d p q c f ∙ sym (toH-ends d p q b e) ∙ h)
 
-  pub once : (p q : ℕ) → count (map (joins p q) (d .bonds)) ≤ 1
+  once : (p q : ℕ) → count (map (joins p q) (d .bonds)) ≤ 1
   once p q = count-bounded (joins p q) (d .bonds) noBond 1 first
     where
       first : (k : ℕ) → k < length (d .bonds) → joins p q (at k) ≡ true → count (map (joins p q) (before k)) < 1
       first k h e = by-ends (count (map (joins p q) (before k)) < 1) (at k) (before k) (C .passes k h) hydrogen other
         where
-          end-free : (r : ℕ) → ((c : Bond) → joins (at k .one) (at k .two) c ≡ true → on r c ≡ true) → count (map (on r) (before k)) ≡ 0 → count (map (joins p q) (before k)) < 1
+          end-free : (r : ℕ) → ((c : Bond) → joins (at k .one) (at k .two) c ≡ true → on r c ≡ true) → count (map (on r) (before k)) ≡ 0
+              → count (map (joins p q) (before k)) < 1
           end-free r o z = omega (arith, count-map-le (before k) (joins p q) (on r) (λ c m f. o c (join-alike p q (at k) c e f)))
 
           hydrogen : toH d (at k) ≡ true → KeepsH d (before k) (at k) → count (map (joins p q) (before k)) < 1
@@ -127,7 +129,7 @@ module _ (d : Drawing) (C : Checks d) where
                 some-false-count (map pair (keep heavy (before k))) (F .first),
               )
 
-  pub heldOnce : (p : ℕ) → p < length (d .kinds) → isH d p ≡ true → count (map (on p) (d .bonds)) ≡ 1
+  heldOnce : (p : ℕ) → p < length (d .kinds) → isH d p ≡ true → count (map (on p) (d .bonds)) ≡ 1
   heldOnce p h i = omega (arith, C .held p h i, count-bounded (on p) (d .bonds) noBond 1 first)
     where
       first : (k : ℕ) → k < length (d .bonds) → on p (at k) ≡ true → count (map (on p) (before k)) < 1
@@ -146,14 +148,14 @@ module _ (d : Drawing) (C : Checks d) where
               let t : toH d (at k) ≡ true = rw (r, i) (or-true (isH d (at k .one))) in
               free (subst (λ s. takenH d (before k) s ≡ false) r (C .passes k l .hydrogen t .first-two))
 
-  pub ends : (b : Bond) → List·Memᴰ b (d .bonds) → (b .one < length (d .kinds)) × (b .two < length (d .kinds))
+  ends : (b : Bond) → List·Memᴰ b (d .bonds) → (b .one < length (d .kinds)) × (b .two < length (d .kinds))
   ends = judged (λ b. (b .one < length (d .kinds)) × (b .two < length (d .kinds))) (λ b bs w. (w .one, w .two))
 
-  pub oneH : (b : Bond) → List·Memᴰ b (d .bonds) → (isH d (b .one) && isH d (b .two)) ≡ false
+  oneH : (b : Bond) → List·Memᴰ b (d .bonds) → (isH d (b .one) && isH d (b .two)) ≡ false
   oneH = judged (λ b. (isH d (b .one) && isH d (b .two)) ≡ false)
       (λ b bs w. by-ends _ b bs w (λ t K. K .heavy) (λ t F. rw (or-neither (isH d (b .one)) (isH d (b .two)) t .0)))
 
-  pub apart : (b : Bond) → List·Memᴰ b (d .bonds) → b .one ≢ b .two
+  apart : (b : Bond) → List·Memᴰ b (d .bonds) → b .one ≢ b .two
   apart = judged (λ b. b .one ≢ b .two) (λ b bs w. by-ends _ b bs w (λ t K q. same b q t (K .heavy)) (λ t F. F .ends .2))
     where
       same : (b : Bond) → b .one ≡ b .two → toH d b ≡ true → (isH d (b .one) && isH d (b .two)) ≡ false → ⊥
@@ -163,7 +165,7 @@ module _ (d : Drawing) (C : Checks d) where
           pick true t f = true≢false f
           pick false t f = true≢false (sym t)
 
-  pub coded : (b : Bond) → List·Memᴰ b (d .bonds) → (0 < b .code) × (b .code ≤ 4)
+  coded : (b : Bond) → List·Memᴰ b (d .bonds) → (0 < b .code) × (b .code ≤ 4)
   coded = judged (λ b. (0 < b .code) × (b .code ≤ 4))
       (λ b bs w. by-ends _ b bs w (λ t K. let c : b .code ≡ 1 = K .single in (omega arith, omega arith)) (λ t F. (F .some, F .known)))
 

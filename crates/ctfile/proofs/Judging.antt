@@ -91,10 +91,10 @@ rule-kept : (d : Drawing) (before : List Bond) (b : Bond) → wrongH d before b 
 unfolding wrongH
 rule-kept d before b e h =
     let both = isH d (b .one) && isH d (b .two) in
-    let manifold = not (eqb (b .code) 1) in
-    let first = or-neither (both || manifold || takenH d before (b .one)) (takenH d before (b .two)) (passed (toH d b) _ h e) in
-    let code = or-neither (both || manifold) (takenH d before (b .one)) (first .0) in
-    let heavy = or-neither both manifold (code .0) in
+    let wrongCode = not (eqb (b .code) 1) in
+    let first = or-neither (both || wrongCode || takenH d before (b .one)) (takenH d before (b .two)) (passed (toH d b) _ h e) in
+    let code = or-neither (both || wrongCode) (takenH d before (b .one)) (first .0) in
+    let heavy = or-neither both wrongCode (code .0) in
     record { heavy = heavy .0; single = eqb-true (b .code) 1 (not-false _ (heavy .1)); first-one = code .1; first-two = first .1 }
   where
     passed : (s t : Bool) → s ≡ true → (s && t) ≡ false → t ≡ false

@@ -12,5 +12,5 @@ pub mod Same
 pub mod Kept
 pub mod Judging
 pub mod Checked
-pub mod Folds
+pub mod FoldedSound
 pub mod AsCard

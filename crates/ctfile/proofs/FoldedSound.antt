@@ -25,7 +25,8 @@ use Rattle.molecule.proofs.Sound.{Sound}
 use Rattle.molecule.proofs.Neighbours.{length-neighbours}
 use Rattle.molecule.proofs.Connected.{connected-linked}
 use Rattle.molecule.proofs.BondLists.{codeIn-swap, codeIn-le, codeIn-self, coded-few, sum-on}
-use Rattle.sling.specs.Folded as text
+use Rattle.sling.specs.Reading as text
+use Rattle.sling.specs.Folded as fold
 use Rattle.sling.specs.Folded.{heavyPlaces}
 use Rattle.ctfile.specs.Filed.{Drawing}
 use Rattle.ctfile.specs.Drawings.{isH, toH, asRead, folded, drawingFault}
@@ -65,6 +66,10 @@ module _ (d : Drawing) (C : Clean d) where
   abbrev n : ℕ
   n = length (d .kinds)
 
+  -- no H by the text's rule, for which a place that is not there is one
+  abbrev heavy : ℕ → Bool
+  heavy p = not (text.isH (asRead d) p)
+
   abbrev places : List ℕ
   places = heavyPlaces (asRead d)
 
@@ -79,54 +84,59 @@ module _ (d : Drawing) (C : Clean d) where
   near p q = not (eqb (codeIn (d .bonds) p q) 0)
 
   folded-size : folded d .size ≡ count (map (λ k. not (eqb k 0)) (d .kinds))
-  unfolding folded text.folded heavyPlaces each
-  folded-size = length-keep (λ p. not (eqb (getD (d .kinds) p 0) 0)) (upto n) ∙ ap count (each-getD (λ k. not (eqb k 0)) (d .kinds) 0)
+  unfolding folded fold.folded heavyPlaces each
+  folded-size = length-keep heavy (upto n) ∙ ap count (each-getD (λ k. not (eqb k 0)) (d .kinds) 0)
+
+  -- the two readings of an H agree on a place that is there
+  no-h : (p : ℕ) → p < n → heavy p ≡ true → isH d p ≡ false
+  no-h p l e = ap (λ k. eqb k 0) (getD-inside (d .kinds) p 25 0 l) ∙ not-true _ e
 
   -- at the place of an atom there is one that is no H
   at-place : (a : ℕ) → a < folded d .size → (place a < n) × (isH d (place a) ≡ false)
-  unfolding folded text.folded heavyPlaces
+  unfolding folded fold.folded heavyPlaces
   at-place a h =
-      let w = of-keep (λ p. not (eqb (getD (d .kinds) p 0) 0)) (upto n) (place a) (getD-mem places a 0 h) in
+      let w = of-keep heavy (upto n) (place a) (getD-mem places a 0 h) in
       let i : place a < n = of-upto n (place a) (w .0) in
-      (i, ap (λ k. eqb k 0) (getD-inside (d .kinds) (place a) 25 0 i) ∙ not-true _ (w .1))
+      (i, no-h (place a) i (w .1))
 
   -- between two that are no H, the bonds to H do not count
   code-rest : (p q : ℕ) → isH d p ≡ false → isH d q ≡ false → codeIn (d .bonds) p q ≡ codeIn rest p q
   code-rest p q e f = codeIn-keep (λ b. not (toH d b)) p q (d .bonds) (λ b m j. rw (toH-ends d p q b j, e, f))
 
+  -- an atom has no more neighbours than bonds without an H
   degree : (a : ℕ) → a < folded d .size → length (neighbours (folded d) a) ≤ count (map (on (place a)) rest)
-  unfolding folded text.folded heavyPlaces each
+  unfolding folded fold.folded heavyPlaces each
   degree a h =
       omega (
         arith,
         length-neighbours (folded d) a,
         ap count (each-getD (near (place a)) places 0),
-        count-keep (λ p. not (eqb (getD (d .kinds) p 0) 0)) (near (place a)) (upto n),
-        count-le n (λ q. not (eqb (getD (d .kinds) q 0) 0) && near (place a) q) (λ q. not (eqb (codeIn rest (place a) q) 0)) passes,
+        count-keep heavy (near (place a)) (upto n),
+        count-le n (λ q. heavy q && near (place a) q) (λ q. not (eqb (codeIn rest (place a) q) 0)) passes,
         coded-few rest n (place a),
       )
     where
-      passes : (q : ℕ) → q < n → (not (eqb (getD (d .kinds) q 0) 0) && near (place a) q) ≡ true → not (eqb (codeIn rest (place a) q) 0) ≡ true
+      passes : (q : ℕ) → q < n → (heavy q && near (place a) q) ≡ true → not (eqb (codeIn rest (place a) q) 0) ≡ true
       passes q l e =
-          let w = and-both (not (eqb (getD (d .kinds) q 0) 0)) (near (place a) q) e in
-          let f : isH d q ≡ false = ap (λ k. eqb k 0) (getD-inside (d .kinds) q 25 0 l) ∙ not-true _ (w .0) in
-          rw (← (code-rest (place a) q (at-place a h .1) f)) (w .1)
+          let w = and-both (heavy q) (near (place a) q) e in
+          rw (← (code-rest (place a) q (at-place a h .1) (no-h q l (w .0)))) (w .1)
 
+  -- and all atoms together no more than two for each
   degrees : sum (each (folded d .size) (λ a. length (neighbours (folded d) a))) ≤ 160
-  unfolding folded text.folded heavyPlaces each
+  unfolding folded fold.folded heavyPlaces each
   degrees =
       omega (
         arith,
         sum-le (folded d .size) (λ a. length (neighbours (folded d) a)) (λ a. count (map (on (place a)) rest)) degree,
         ap sum (each-getD (λ p. count (map (on p) rest)) places 0),
-        sum-keep-le (λ p. count (map (on p) rest)) (λ p. not (eqb (getD (d .kinds) p 0) 0)) (upto n),
+        sum-keep-le (λ p. count (map (on p) rest)) heavy (upto n),
         sum-on n rest (λ b m. let i = of-keep (λ b. not (toH d b)) (d .bonds) b m .0 in (C .ends b i .0, C .ends b i .1, C .apart b i)),
         length-keep (λ b. not (toH d b)) (d .bonds),
         C .bonds,
       )
 
 pub folded-sound : (d : Drawing) → drawingFault d ≡ 0 → Sound (folded d)
-unfolding folded text.folded
+unfolding folded fold.folded
 folded-sound d e =
     let C = clean d e in
     let K = checks d e in
