@@ -1,19 +1,18 @@
 -- A drawing that no check refuses is clean: of the bonds that pass a test each was judged after those before it, so that all of them are no more
 -- than the judging lets stand.
-use mathlib.Core.Bool.{Bool, true, false, cond, not, _&&_, _||_, or-comm, or-true, true≢false}
+use mathlib.Core.Bool.{Bool, true, false, not, _&&_, _||_, or-comm, or-true, true≢false}
 use mathlib.Core.List.{List, map, List·Memᴰ}
 use mathlib.Core.Logic.{_⊎_, inl, inr, ⊎-elim, _≢_}
 use mathlib.Core.Path.{_≡_, refl, sym, _∙_, ap, subst}
-use Prim.Native.Nat.{ℕ, zero, suc, _+_, _<_, _≤_}
+use Prim.Native.Nat.{ℕ, _<_, _≤_}
 use native.Mathlib.Omega.{arith}
 use lib.Dec.{eqb}
 use lib.ListN.{length, getD, take}
-use lib.Seq.{take-suc, take-length}
 use borrow.Author.Tests.{eqb-true, not-true}
 use Rattle.lists.specs.Tests.{keep, count}
 use Rattle.lists.proofs.Booleans.{and-both, or-either, or-neither}
 use Rattle.lists.proofs.Members.{mem-place}
-use Rattle.lists.proofs.Passed.{count-snoc, count-keep, count-map-le}
+use Rattle.lists.proofs.Passed.{count-keep, count-map-le, count-bounded}
 use Rattle.lists.proofs.Tested.{some-false-count}
 use Rattle.molecule.specs.Bonds.{Bond, on, joins}
 use Rattle.molecule.proofs.BondLists.{Between, joins-ends, joins-swap}
@@ -23,22 +22,6 @@ use Rattle.ctfile.specs.Filed.{Drawing}
 use Rattle.ctfile.specs.Drawings.{isH, toH, takenH, noBond, drawingFault}
 use Rattle.ctfile.proofs.Clean.{Clean}
 use Rattle.ctfile.proofs.Judging.{KeepsH, Passes, Checks, checks}
-
--- where fewer than m pass before each that passes, at most m do
-count-bounded : {A : Type 0} (p : A → Bool) (l : List A) (z : A) (m : ℕ)
-    → ((k : ℕ) → k < length l → p (getD l k z) ≡ true → count (map p (take k l)) < m) → count (map p l) ≤ m
-count-bounded p l z m h = subst (λ r. count (map p r) ≤ m) (take-length l) (upTo (length l) (omega arith))
-  where
-    upTo : (k : ℕ) → k ≤ length l → count (map p (take k l)) ≤ m
-    upTo zero b = omega arith
-    upTo (suc k) b = pick (p (getD l k z)) refl (upTo k (omega arith))
-      where
-        more : count (map p (take (suc k) l)) ≡ count (map p (take k l)) + cond (p (getD l k z)) 1 0
-        more = ap (λ r. count (map p r)) (take-suc l k z b) ∙ count-snoc p (take k l) (getD l k z)
-
-        pick : (s : Bool) → p (getD l k z) ≡ s → count (map p (take k l)) ≤ m → count (map p (take (suc k) l)) ≤ m
-        pick true e i = rw (more, e) (omega (arith, h k b e))
-        pick false e i = rw (more, e) (omega arith)
 
 -- the H among the ends of a bond are those of the two places that it joins
 pub toH-ends : (d : Drawing) (p q : ℕ) (b : Bond) → joins p q b ≡ true → toH d b ≡ (isH d p || isH d q)

@@ -1,9 +1,8 @@
 -- The places of a drawing's atoms that are no H: each is there, is none, and stands once in their list.
-use mathlib.Core.Bool.{Bool, true, false, not, _&&_}
-use mathlib.Core.List.{List, [], _∷_, map, List·Memᴰ}
+use mathlib.Core.Bool.{Bool, false, not, _&&_}
+use mathlib.Core.List.{List, map, List·Memᴰ}
 use mathlib.Core.Path.{_≡_, refl, sym, ap, _∙_}
-use Prim.Native.Nat.{ℕ, zero, suc, _<_, _≤_}
-use native.Mathlib.Nat.{not-suc-le-zero}
+use Prim.Native.Nat.{ℕ, _<_, _≤_}
 use native.Mathlib.Omega.{arith}
 use lib.Dec.{eqb}
 use lib.ListN.{length, getD}
@@ -14,7 +13,7 @@ use Rattle.lists.proofs.Booleans.{and-both}
 use Rattle.lists.proofs.Counts.{count-only}
 use Rattle.lists.proofs.Kept.{of-keep, mem-keep}
 use Rattle.lists.proofs.Members.{getD-mem}
-use Rattle.lists.proofs.Passed.{count-keep, count-take, length-keep}
+use Rattle.lists.proofs.Passed.{count-keep, once-place, length-keep}
 use Rattle.lists.proofs.Upto.{mem-upto, of-upto, each-getD}
 use Rattle.sling.specs.Reading as reader
 use Rattle.sling.specs.Folded.{heavyPlaces}
@@ -22,15 +21,6 @@ use Rattle.sling.specs.Folded as text
 use Rattle.ctfile.specs.Filed.{Drawing}
 use Rattle.ctfile.specs.Drawings.{isH, asRead, folded}
 use Rattle.ctfile.proofs.AsText.{h-there}
-
--- what passes a test that at most one passes stands at one place
-once-place : {A : Type 0} (p : A → Bool) (l : List A) (d : A) → count (map p l) ≤ 1 → (i j : ℕ) → i < length l → j < length l
-    → p (getD l i d) ≡ true → p (getD l j d) ≡ true → i ≡ j
-once-place p [] d o i j h k e f = absurd (not-suc-le-zero h)
-once-place p (x ∷ l) d o zero zero h k e f = refl
-once-place p (x ∷ l) d o zero (suc j) h k e f = absurd (let n = rw e at o in omega (arith, count-take p l j d (omega arith) f))
-once-place p (x ∷ l) d o (suc i) zero h k e f = absurd (let n = rw f at o in omega (arith, count-take p l i d (omega arith) e))
-once-place p (x ∷ l) d o (suc i) (suc j) h k e f = ap suc (once-place p l d (omega arith) i j (omega arith) (omega arith) e f)
 
 -- a number is kept once
 keep-once : (h : ℕ → Bool) (n r : ℕ) → count (map (λ x. eqb x r) (keep h (upto n))) ≤ 1

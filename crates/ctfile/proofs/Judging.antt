@@ -1,9 +1,9 @@
 -- A drawing that no check refuses passes each of them, said as a fact of its own.
 use mathlib.Core.Bool.{Bool, true, false, cond, not, _&&_, _||_, true≢false}
-use mathlib.Core.List.{List, [], _∷_, map, List·Memᴰ, List·Memᴰ·not-nil, List·Memᴰ·cases-cons}
-use mathlib.Core.Logic.{_⊎_, inl, inr, _≢_}
-use mathlib.Core.Path.{_≡_, refl, sym, _∙_, ap}
-use Prim.Native.Nat.{ℕ, zero, suc, _<_, _≤_}
+use mathlib.Core.List.{List, map}
+use mathlib.Core.Logic.{_≢_}
+use mathlib.Core.Path.{_≡_, sym}
+use Prim.Native.Nat.{ℕ, _<_, _≤_}
 use native.Mathlib.Omega.{arith}
 use lib.Dec.{eqb, leb, ltb}
 use lib.ListN.{length, getD, take}
@@ -12,12 +12,11 @@ use Rattle.lists.specs.Upto.{upto, each, sum}
 use Rattle.lists.specs.Tests.{keep, count, some}
 use Rattle.lists.proofs.Booleans.{or-neither, unless, provided}
 use Rattle.lists.proofs.Members.{getD-mem}
-use Rattle.lists.proofs.Tested.{some-pass, some-true-count}
+use Rattle.lists.proofs.Tested.{some-true-count, some-false-below}
 use Rattle.lists.proofs.Upto.{mem-upto}
 use Rattle.molecule.specs.Bonds.{Bond, on}
 use Rattle.molecule.specs.Molecule.{Molecule, hydrogens, connected}
-use Rattle.molecule.specs.Refusals.{orNext, firstFault}
-use Rattle.molecule.proofs.Judging.{Fits, judged-fits}
+use Rattle.molecule.proofs.Judging.{Fits, judged-fits, orNext-none, firstFault-none}
 use Rattle.ctfile.specs.Filed.{Drawing}
 use Rattle.ctfile.specs.Drawings.{isH, toH, folded, countsFault, kindsFault, takenH, wrongH, bondFault, noBond, bondsFault, loneFault, hydrogensFault, apartFault, drawingFault}
 
@@ -45,29 +44,6 @@ pub record Checks (d : Drawing) : Type 0 where
   pub few : (a : ℕ) → a < folded d .size → hydrogens (folded d) a ≤ 4
   pub total : sum (each (folded d .size) (hydrogens (folded d))) ≤ 128
   pub connected : connected (folded d) ≡ true
-
--- a fault that is not there
-orNext-none : (m n : ℕ) → orNext m n ≡ 0 → (m ≡ 0) × (n ≡ 0)
-orNext-none zero n e = (refl, e)
-orNext-none (suc m) n e = absurd (omega arith)
-
-firstFault-none : (f : ℕ → ℕ) (l : List ℕ) → firstFault (map f l) ≡ 0 → (a : ℕ) → List·Memᴰ a l → f a ≡ 0
-unfolding firstFault
-firstFault-none f [] e a m = absurd (List·Memᴰ·not-nil m)
-firstFault-none f (x ∷ l) e a m = let w = orNext-none (f x) (firstFault (map f l)) e in go (w .0) (firstFault-none f l (w .1) a) (List·Memᴰ·cases-cons m)
-  where
-    go : f x ≡ 0 → (List·Memᴰ a l → f a ≡ 0) → (a ≡ x) ⊎ List·Memᴰ a l → f a ≡ 0
-    go z ih (inl q) = ap f q ∙ z
-    go z ih (inr k) = ih k
-
--- where none of the numbers below n passes, each fails
-some-none : (n : ℕ) (p : ℕ → Bool) → some (each n p) ≡ false → (a : ℕ) → a < n → p a ≡ false
-unfolding each
-some-none n p e a h = go (p a) refl
-  where
-    go : (b : Bool) → p a ≡ b → b ≡ false
-    go true f = absurd (true≢false (sym (some-pass p (upto n) a (mem-upto n a h) f) ∙ e))
-    go false f = refl
 
 counts-pass : (d : Drawing) → countsFault d ≡ 0
     → (0 < count (map (λ k. not (eqb k 0)) (d .kinds))) × (count (map (λ k. not (eqb k 0)) (d .kinds)) ≤ 64) × (count (map (λ b. not (toH d b)) (d .bonds)) ≤ 80)
@@ -130,7 +106,7 @@ lone-passes : (d : Drawing) → loneFault d ≡ 0 → (p : ℕ) → p < length (
 unfolding loneFault
 lone-passes d e p h i =
     let lone : ℕ → Bool = λ q. isH d q && not (some (map (on q) (d .bonds))) in
-    some-true-count (map (on p) (d .bonds)) (bonded (isH d p) _ i (some-none (length (d .kinds)) lone (unless _ 6 0 e .0) p h))
+    some-true-count (map (on p) (d .bonds)) (bonded (isH d p) _ i (some-false-below (length (d .kinds)) lone (unless _ 6 0 e .0) p h))
   where
     bonded : (s t : Bool) → s ≡ true → (s && not t) ≡ false → t ≡ true
     bonded true t f g = not-false t g
@@ -141,7 +117,7 @@ unfolding hydrogensFault
 hydrogens-pass M e =
     let over : ℕ → Bool = λ a. ltb 4 (hydrogens M a) in
     let w = or-neither (some (each (M .size) over)) (ltb 128 (sum (each (M .size) (hydrogens M)))) (unless _ 3 0 e .0) in
-    (λ a h. ltb-false 4 (hydrogens M a) (some-none (M .size) over (w .0) a h), ltb-false 128 _ (w .1))
+    (λ a h. ltb-false 4 (hydrogens M a) (some-false-below (M .size) over (w .0) a h), ltb-false 128 _ (w .1))
 
 pub checks : (d : Drawing) → drawingFault d ≡ 0 → Checks d
 unfolding drawingFault apartFault

@@ -3,14 +3,15 @@ mod Files
 mod Examples
 mod RefusalExamples
 pub mod Clean
+pub mod Judging
+pub mod Checked
 pub mod AsText
 pub mod Hydrogens
 pub mod HeavyPlaces
+pub mod FoldedSound
 pub mod Folding
 pub mod Redrawing
+pub mod Named
 pub mod Same
-pub mod Kept
-pub mod Judging
-pub mod Checked
-pub mod FoldedSound
 pub mod AsCard
+pub mod Kept

@@ -17,6 +17,12 @@ getD-mem [] i d h = absurd (not-suc-le-zero h)
 getD-mem (x ∷ l) zero d h = List·Memᴰ·head refl
 getD-mem (x ∷ l) (suc i) d h = List·Memᴰ·tail (getD-mem l i d (omega arith))
 
+-- what stands at a place that is there does not hang on what would stand for nothing
+pub getD-there : {A : Type 0} (l : List A) (i : ℕ) (d e : A) → i < length l → getD l i d ≡ getD l i e
+getD-there [] i d e h = absurd (not-suc-le-zero h)
+getD-there (x ∷ l) zero d e h = refl
+getD-there (x ∷ l) (suc i) d e h = getD-there l i d e (omega arith)
+
 -- what is in a list stands at a place
 pub mem-place : {A : Type 0} (l : List A) (x d : A) → List·Memᴰ x l → (i : ℕ) × (i < length l) × (getD l i d ≡ x)
 mem-place [] x d m = absurd (List·Memᴰ·not-nil m)

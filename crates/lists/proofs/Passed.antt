@@ -1,11 +1,12 @@
 -- How many of a list pass a test: told from how many pass another, and from the parts of the list.
-use mathlib.Core.Path.{_≡_, refl, ap, _∙_}
+use mathlib.Core.Path.{_≡_, refl, ap, _∙_, subst}
 use mathlib.Core.Bool.{Bool, true, false, cond, not, _&&_}
 use mathlib.Core.List.{List, [], _∷_, _++_, map, map-append, List·Memᴰ, List·Memᴰ·head, List·Memᴰ·tail}
 use Prim.Native.Nat.{ℕ, zero, suc, _+_, _<_, _≤_}
 use native.Mathlib.Nat.{zero-add, not-suc-le-zero}
 use native.Mathlib.Omega.{arith}
 use lib.ListN.{length, getD, take}
+use lib.Seq.{take-suc, take-length}
 use Rattle.lists.specs.Tests.{keep, count}
 use Rattle.lists.proofs.Booleans.{cond-le}
 use Rattle.lists.proofs.Steps.{count-append}
@@ -71,3 +72,28 @@ pub count-take : {A : Type 0} (p : A → Bool) (l : List A) (i : ℕ) (d : A) �
 count-take p [] i d h e = absurd (not-suc-le-zero h)
 count-take p (x ∷ l) zero d h e = rw e (omega arith)
 count-take p (x ∷ l) (suc i) d h e = omega (arith, count-take p l i d (omega arith) e)
+
+-- what passes a test that at most one passes stands at one place
+pub once-place : {A : Type 0} (p : A → Bool) (l : List A) (d : A) → count (map p l) ≤ 1 → (i j : ℕ) → i < length l → j < length l
+    → p (getD l i d) ≡ true → p (getD l j d) ≡ true → i ≡ j
+once-place p [] d o i j h k e f = absurd (not-suc-le-zero h)
+once-place p (x ∷ l) d o zero zero h k e f = refl
+once-place p (x ∷ l) d o zero (suc j) h k e f = absurd (let n = rw e at o in omega (arith, count-take p l j d (omega arith) f))
+once-place p (x ∷ l) d o (suc i) zero h k e f = absurd (let n = rw f at o in omega (arith, count-take p l i d (omega arith) e))
+once-place p (x ∷ l) d o (suc i) (suc j) h k e f = ap suc (once-place p l d (omega arith) i j (omega arith) (omega arith) e f)
+
+-- where fewer than m pass before each that passes, at most m do
+pub count-bounded : {A : Type 0} (p : A → Bool) (l : List A) (z : A) (m : ℕ)
+    → ((k : ℕ) → k < length l → p (getD l k z) ≡ true → count (map p (take k l)) < m) → count (map p l) ≤ m
+count-bounded p l z m h = subst (λ r. count (map p r) ≤ m) (take-length l) (upTo (length l) (omega arith))
+  where
+    upTo : (k : ℕ) → k ≤ length l → count (map p (take k l)) ≤ m
+    upTo zero b = omega arith
+    upTo (suc k) b = pick (p (getD l k z)) refl (upTo k (omega arith))
+      where
+        more : count (map p (take (suc k) l)) ≡ count (map p (take k l)) + cond (p (getD l k z)) 1 0
+        more = ap (λ r. count (map p r)) (take-suc l k z b) ∙ count-snoc p (take k l) (getD l k z)
+
+        pick : (s : Bool) → p (getD l k z) ≡ s → count (map p (take k l)) ≤ m → count (map p (take (suc k) l)) ≤ m
+        pick true e i = rw (more, e) (omega (arith, h k b e))
+        pick false e i = rw (more, e) (omega arith)

@@ -1,7 +1,7 @@
 -- Sums of something of each element of a list, and so of each number below n; and counting as a sum of 0 and 1, so that pairs are counted
 -- by their first parts or by their second.
 use mathlib.Core.Path.{_≡_, refl, sym, ap, _∙_}
-use mathlib.Core.Bool.{Bool, cond}
+use mathlib.Core.Bool.{Bool, true, false, cond}
 use mathlib.Core.List.{List, [], _∷_, map, List·Memᴰ, List·Memᴰ·head, List·Memᴰ·tail}
 use Prim.Native.Nat.{ℕ, zero, suc, _+_, _*_, _≤_, _<_}
 use native.Mathlib.Decide.{ℕ-discrete}
@@ -10,7 +10,7 @@ use borrow.Author.Tests.{eq-eqb, ne-eqb}
 use lib.Dec.{eqb}
 use lib.ListN.{length}
 use Rattle.lists.specs.Upto.{upto, each, sum}
-use Rattle.lists.specs.Tests.{count}
+use Rattle.lists.specs.Tests.{keep, count}
 use Rattle.lists.proofs.Upto.{each-eq, length-upto, of-upto}
 use Rattle.lists.proofs.Steps.{sum-next}
 
@@ -28,6 +28,16 @@ pub sum-map-const : {A : Type 0} (l : List A) (c : ℕ) → sum (map (λ x. c) l
 unfolding sum
 sum-map-const [] c = omega arith
 sum-map-const (x ∷ l) c = omega (arith, sum-map-const l c)
+
+-- those of a list that pass come to no more than the whole list
+pub sum-keep-le : {A : Type 0} (f : A → ℕ) (p : A → Bool) (l : List A) → sum (map f (keep p l)) ≤ sum (map f l)
+unfolding keep sum
+sum-keep-le f p [] = omega arith
+sum-keep-le f p (x ∷ l) = go (p x) (sum-keep-le f p l)
+  where
+    go : (b : Bool) → sum (map f (keep p l)) ≤ sum (map f l) → sum (map f (cond b (x ∷ keep p l) (keep p l))) ≤ f x + sum (map f l)
+    go true ih = omega arith
+    go false ih = omega arith
 
 pub sum-eq : (n : ℕ) (f g : ℕ → ℕ) → ((a : ℕ) → a < n → f a ≡ g a) → sum (each n f) ≡ sum (each n g)
 sum-eq n f g h = ap sum (each-eq n f g h)

@@ -74,6 +74,14 @@ module _ (n : ℕ) (p : ℕ → Bool) where
   unfolding each
   every-pass-below h = every-pass p (upto n) (λ a d. h a (of-upto n a d))
 
+  pub some-false-below : some (each n p) ≡ false → (a : ℕ) → a < n → p a ≡ false
+  unfolding each
+  some-false-below e a h = go (p a) refl
+    where
+      go : (b : Bool) → p a ≡ b → b ≡ false
+      go true f = absurd (true≢false (sym (some-pass p (upto n) a (mem-upto n a h) f) ∙ e))
+      go false f = refl
+
 -- one passes exactly if not none is counted
 pub some-count : (l : List Bool) → some l ≡ ltb 0 (count l)
 unfolding some

@@ -1,5 +1,5 @@
 -- What a list of bonds says of two atoms, how many of its bonds an atom has, and that every bond has two ends.
-use mathlib.Core.Bool.{Bool, true, false, cond, not, _&&_, _||_, or-comm, and-false}
+use mathlib.Core.Bool.{Bool, true, false, cond, not, _&&_, _||_, or-comm, and-false, true≢false}
 use mathlib.Core.List.{List, [], _∷_, map, List·Memᴰ, List·Memᴰ·head, List·Memᴰ·tail, List·Memᴰ·not-nil, List·Memᴰ·cases-cons}
 use mathlib.Core.Logic.{_⊎_, inl, inr, ⊎-elim, _≢_}
 use mathlib.Core.Path.{_≡_, refl, sym, _∙_, ap}
@@ -9,7 +9,7 @@ use lib.Dec.{eqb}
 use lib.ListN.{length}
 use borrow.Author.Tests.{eqb-true}
 use Rattle.lists.specs.Upto.{upto, each, sum}
-use Rattle.lists.specs.Tests.{count}
+use Rattle.lists.specs.Tests.{keep, count}
 use Rattle.lists.proofs.Booleans.{and-both, or-either}
 use Rattle.lists.proofs.Sums.{sum-map-const, sum-swap}
 use Rattle.lists.proofs.Members.{map-eq}
@@ -48,6 +48,18 @@ codeIn-coded (b ∷ bs) p q = go (joins p q b) refl (codeIn-coded bs p q)
     go true e w = inl (b, List·Memᴰ·head refl, e, rw e)
     go false e (inl w) = inl (w .0, List·Memᴰ·tail (w .1), w .2, rw e (w .3))
     go false e (inr w) = inr (λ c m. ⊎-elim (λ (f : c ≡ b). ap (joins p q) f ∙ e) (w .0 c) (List·Memᴰ·cases-cons m), rw e (w .1))
+
+-- the code of two atoms is decided by the bonds that may join them
+pub codeIn-keep : (f : Bond → Bool) (p q : ℕ) (bs : List Bond) → ((b : Bond) → List·Memᴰ b bs → joins p q b ≡ true → f b ≡ true) → codeIn bs p q ≡ codeIn (keep f bs) p q
+unfolding keep
+codeIn-keep f p q [] h = refl
+codeIn-keep f p q (b ∷ bs) h = go (f b) (joins p q b) refl refl (codeIn-keep f p q bs (λ c m. h c (List·Memᴰ·tail m)))
+  where
+    go : (s t : Bool) → f b ≡ s → joins p q b ≡ t → codeIn bs p q ≡ codeIn (keep f bs) p q
+        → cond (joins p q b) (b .code) (codeIn bs p q) ≡ codeIn (cond s (b ∷ keep f bs) (keep f bs)) p q
+    go true t e j ih = ap (cond (joins p q b) (b .code)) ih
+    go false true e j ih = absurd (true≢false (sym (h b (List·Memᴰ·head refl) j) ∙ e))
+    go false false e j ih = rw j ih
 
 -- a bound on every code
 pub codeIn-le : (bs : List Bond) (p q m : ℕ) → ((b : Bond) → List·Memᴰ b bs → b .code ≤ m) → codeIn bs p q ≤ m

@@ -41,11 +41,11 @@ pub record Checks (s : List ℕ) : Type 0 where
   pub connected : connected (moleculeOf s) ≡ true
 
 -- a fault that is not there
-orNext-none : (m n : ℕ) → orNext m n ≡ 0 → (m ≡ 0) × (n ≡ 0)
+pub orNext-none : (m n : ℕ) → orNext m n ≡ 0 → (m ≡ 0) × (n ≡ 0)
 orNext-none zero n e = (refl, e)
 orNext-none (suc m) n e = absurd (omega arith)
 
-firstFault-none : (f : ℕ → ℕ) (l : List ℕ) → firstFault (map f l) ≡ 0 → (a : ℕ) → List·Memᴰ a l → f a ≡ 0
+pub firstFault-none : (f : ℕ → ℕ) (l : List ℕ) → firstFault (map f l) ≡ 0 → (a : ℕ) → List·Memᴰ a l → f a ≡ 0
 unfolding firstFault
 firstFault-none f [] e a m = absurd (List·Memᴰ·not-nil m)
 firstFault-none f (x ∷ l) e a m = let w = orNext-none (f x) (firstFault (map f l)) e in go (w .0) (firstFault-none f l (w .1) a) (List·Memᴰ·cases-cons m)

@@ -20,7 +20,7 @@ use Rattle.classes.proofs.Carried.{rule1-law}
 use Rattle.classes.proofs.Renumbered.{leafCount-renumbered, classMark-renumbered}
 use Rattle.classes.proofs.Canonical.{canonical-unchanged}
 use Rattle.sling.proofs.Alike.{name-alike}
-use Rattle.rules.specs.Answers.{Answer, refused, accepted, inRoom, ofCard, nameOut, canonicalOut, marksOut, nameOf, canonicalOf, marksOf}
+use Rattle.rules.specs.Answers.{Answer, refused, accepted, inRoom, numbered, ofCard, nameOut, canonicalOut, marksOut, nameOf, canonicalOf, marksOf}
 use Rattle.rules.specs.Promises.{SameMarks, AlwaysSame}
 use Rattle.rules.proofs.Answered.{within, card-answered}
 
@@ -28,6 +28,10 @@ module _ {σ : ℕ → ℕ} {M M′ : Molecule} (E : Renumbered σ M M′) where
   pub nameOut-same : 0 < M .size → nameOut M′ ≡ nameOut M
   unfolding nameOut canonical byRank
   nameOut-same h = sym (name-alike (canonical rule1 M) (canonical rule1 M′) (canonical-unchanged rule1 rule1-law E) h)
+
+  pub named-same : 0 < M .size → (allowance room : ℕ) → numbered nameOut allowance room M′ ≡ numbered nameOut allowance room M
+  unfolding numbered
+  named-same h allowance room = ap₂ (within nameOut allowance room) (leafCount-renumbered rule1 rule1-law E) (nameOut-same h)
 
   pub canonicalOut-same : canonicalOut M′ ≡ canonicalOut M
   unfolding canonicalOut

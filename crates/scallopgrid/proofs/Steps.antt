@@ -1,13 +1,11 @@
 -- What came in read, numbered and put in rank order: what is then written is what the answers ask for, since each step's view is the last one's.
 use mathlib.Core.List.{List}
-use mathlib.Core.Logic.{_≢_}
 use mathlib.Core.Path.{_≡_, refl, sym, _∙_, ap, subst}
-use mathlib.Core.Bool.{Bool, cond}
+use mathlib.Core.Bool.{cond}
 use Prim.Native.Nat.{ℕ, zero, suc, _<_, _≤_}
 use native.Mathlib.Omega.{arith}
 use borrow.Author.Tests.{le-ltb}
 use lib.Dec.{ltb}
-use lib.ListN.{length}
 use Rattle.molecule.specs.Molecule.{Molecule, kind}
 use Rattle.molecule.specs.Renumbering.{Renumbered}
 use Rattle.molecule.specs.Judged.{moleculeOf, cardFault}
