@@ -14,7 +14,7 @@ use table::AtomNo;
 use table::Table;
 
 // 5 for an atom that is not there; 6 for a bond to itself, a second one on the pair, a code not 1 to 4; 4 for a seventh on an atom.
-fn bond_fault<'a>(
+pub fn bond_fault<'a>(
     n: usize,
     degrees: &'a [u8; Table::MAX_ATOMS],
     near: &'a [u8; Table::SLOTS],

@@ -10,8 +10,8 @@ use lent::Output;
 use table::Table;
 
 mod atoms;
-mod bonds;
-mod layout;
+pub mod bonds;
+pub mod layout;
 mod writing;
 
 // A refusal, 0 where there is none, and then the table.
