@@ -1,0 +1,15 @@
+pub mod Taken
+pub mod Counting
+pub mod Codes
+pub mod Numbers
+pub mod Bared
+pub mod Bonded
+pub mod Links
+pub mod Ends
+pub mod Folding
+pub mod Step
+pub mod Held
+pub mod BondLoop
+pub mod Capped
+pub mod Ended
+pub mod Whole

@@ -1,1 +1,3 @@
 pub mod View
+pub mod Tests
+pub mod Folding
