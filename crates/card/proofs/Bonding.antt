@@ -21,8 +21,7 @@ use Rattle.card.specs.Tests.{bondTested}
 use Rattle.card.specs.Reading.{Holds, BondsRead}
 use Rattle.card.proofs.Faults.{Rest, rest-start, rest-stop, rest-next, rest-end}
 use Rattle.card.proofs.Layouts.{laid}
-use Rattle.card.proofs.Holding.{holds-joinable, holds-bond}
-use Rattle.card.proofs.Judged.{tested-judged}
+use Rattle.card.proofs.Holding.{tested-judged, holds-joinable, holds-bond}
 
 pub record Bonding (s : List ℕ) (t : Table) (k : ℕ) : Type 0 where
   pub few : k ≤ bondCount s

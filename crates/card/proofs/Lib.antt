@@ -1,7 +1,7 @@
 pub mod Layouts
 pub mod Faults
+pub mod Bonded
 pub mod Holding
-pub mod Judged
 pub mod Alike
 pub mod Filling
 pub mod Bonding

@@ -15,12 +15,12 @@ use Rattle.molecule.specs.Bonds.{Bond, on}
 use Rattle.sling.specs.Reading as text
 use Rattle.table.specs.declared.Table.{Table}
 use Rattle.card.proofs.Faults.{Rest, rest-start}
+use Rattle.card.proofs.Bonded.{Bonded, bonded-none}
 use Rattle.ctfile.specs.Filed.{Drawing}
 use Rattle.ctfile.specs.Drawings.{toH, asRead, noBond, bondFault, bondsFault}
 use Rattle.drawing.specs.declared.atoms.Bare.{Bare}
 use Rattle.drawing.specs.Tests.{capped, oneMore}
 use Rattle.drawing.specs.Folding.{Bares, counted}
-use Rattle.drawing.proofs.Bonded.{Bonded, bonded-none}
 use Rattle.drawing.proofs.Links.{size, place, Inside, linked}
 
 -- one hydrogen more, where they are counted to one over the limit

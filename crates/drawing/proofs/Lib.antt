@@ -3,7 +3,6 @@ pub mod Counting
 pub mod Codes
 pub mod Numbers
 pub mod Bared
-pub mod Bonded
 pub mod Links
 pub mod Ends
 pub mod Folding

@@ -25,11 +25,11 @@ use Rattle.table.proofs.Views.{tidy-row}
 use Rattle.table.proofs.Halves.{rowsOf}
 use Rattle.table.proofs.Joins.{rowed, bond-roomy, bond-joins}
 use Rattle.card.proofs.Faults.{rest-stop, rest-next, orNext-some, orNext-none}
+use Rattle.card.proofs.Bonded.{Bonded, bonded-counted, bonded-tested, bonded-joinable, bonded-next}
 use Rattle.ctfile.specs.Filed.{Drawing}
 use Rattle.ctfile.specs.Drawings.{isH, toH, asRead, noBond, bondFault, bondsFault}
 use Rattle.drawing.specs.Tests.{capped, oneMore}
 use Rattle.drawing.specs.Folding.{judgedIn, Linkable, Unlinked, Linked}
-use Rattle.drawing.proofs.Bonded.{Bonded, bonded-counted, bonded-tested, bonded-joinable, bonded-next}
 use Rattle.drawing.proofs.Links.{size, place, number, Inside, Heavy, isH-there, place-number, number-place, same-number, renumbered, heavies, linked, linked-hit, linked-miss, linked-judged}
 use Rattle.drawing.proofs.Ends.{tested, ends-judged, ends-inside, ends-other}
 use Rattle.drawing.proofs.Folding.{counted-more, marked-more, hydrogenOf, faultAt, FoldedTo}
