@@ -1,0 +1,44 @@
+-- The three columns are those of the definition.
+use mathlib.Core.Path.{_∙_}
+use Rattle.ctfile.specs.Fields.{sizeIn}
+use Rattle.molfile.proofs.FieldLaws.{columns-three}
+use borrow.Author.Needs.{needs}
+use Rattle.molfile.proofs.field.size_at.Statement.{statement}
+use Rattle.molfile.proofs.field.size_at.Tie as tie
+use Rattle.molfile.proofs.field.size_at.Reads as reads
+use Rattle.molfile.proofs.field.size_at.Lts as lts
+use Rattle.molfile.proofs.field.column.Reads as column-reads
+use Rattle.molfile.proofs.field.size_of.Reads as size-of-reads
+
+column-requires : tie.Need-column-requires
+column-requires c κs = search needs
+
+add-column : tie.Need-add-column
+add-column c = search needs
+
+column-requires-2 : tie.Need-column-requires-2
+column-requires-2 c κs = search needs
+
+add-column-2 : tie.Need-add-column-2
+add-column-2 c = search needs
+
+column-requires-3 : tie.Need-column-requires-3
+column-requires-3 c κs = search needs
+
+size-of-requires : tie.Need-size-of-requires
+size-of-requires c κs = search needs
+
+returns : tie.Need-returns
+returns c = record { is = c .size-of .ensures .is ∙ rw (c .before .before .before .column .ensures, c .before .before .column2 .ensures, c .before .column3 .ensures, columns-three); small = c .size-of .ensures .small }
+
+pub size-at-spec : {M : Type 1} → statement M
+size-at-spec =
+    tie.close
+    (tie.spec
+    column-requires
+    add-column
+    column-requires-2
+    add-column-2
+    column-requires-3
+    size-of-requires
+    returns)
