@@ -1,2 +1,5 @@
 pub mod LineLaws
 pub mod FieldLaws
+pub mod TextLaws
+pub mod FormLaws
+pub mod PropertyLaws
