@@ -3,3 +3,5 @@ pub mod FieldLaws
 pub mod TextLaws
 pub mod FormLaws
 pub mod PropertyLaws
+pub mod PassingLaws
+pub mod SectionLaws

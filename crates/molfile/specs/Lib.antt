@@ -1,2 +1,4 @@
 pub mod Cutting
 pub mod Numbers
+pub mod Passing
+pub mod Filing

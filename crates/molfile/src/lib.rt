@@ -4,4 +4,6 @@ mod bonds;
 mod field;
 mod forms;
 mod line;
+mod outcome;
 mod properties;
+mod sections;
