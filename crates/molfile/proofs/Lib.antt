@@ -5,3 +5,4 @@ pub mod FormLaws
 pub mod PropertyLaws
 pub mod PassingLaws
 pub mod SectionLaws
+pub mod FilingLaws
