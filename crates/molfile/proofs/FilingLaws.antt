@@ -1,5 +1,5 @@
 -- The verdict on a file, section by section, and its drawing.
-use Prim.Native.Nat.{ℕ, _+_, _≤_}
+use Prim.Native.Nat.{ℕ, _+_}
 use mathlib.Core.Path.{_≡_, refl, sym, ap, ap₂, _∙_}
 use mathlib.Core.List.{List, [], _∷_, _++_, append-nil}
 use mathlib.Core.Bool.{true, false}
@@ -7,7 +7,6 @@ use native.Mathlib.Omega.{arith}
 use lib.ListN.{length, getD, take, drop, replicate, length-replicate}
 use lib.Seq.{getD-drop, drop-drop}
 use Rattle.lists.specs.Upto.{each}
-use Rattle.molecule.specs.Bonds.{Bond}
 use Rattle.ctfile.specs.Lines as rules
 use Rattle.ctfile.specs.Lines.{linesOf}
 use Rattle.ctfile.specs.Forms.{atomCountIn, bondCountIn, isCountsLine, isAtomLine, isBondLine}

@@ -5,18 +5,18 @@ use mathlib.Core.List.{List, [], _∷_}
 use mathlib.Core.Bool.{Bool, true, false, _&&_}
 use native.Mathlib.Decide.{decLt}
 use native.Mathlib.Omega.{arith}
-use lib.ListN.{length, getD, set}
+use lib.ListN.{length, getD}
 use lib.Dec.{eqb, leb, ltb, isEq}
-use borrow.Author.Tests.{lt-ltb, le-ltb, le-leb, lt-leb, eq-eqb, ne-eqb, eqb-true, leb-true}
+use borrow.Author.Tests.{lt-ltb, le-ltb, eq-eqb, ne-eqb, eqb-true, leb-true}
 use Rattle.lists.specs.Upto.{each, from}
-use Rattle.lists.specs.Tests.{every, find}
+use Rattle.lists.specs.Tests.{every}
 use Rattle.lists.specs.Order.{lex}
 use Rattle.lists.proofs.Tested.{every-true-below}
 use Rattle.molecule.specs.Kinds.{Kind, kinds, symbolOf, kindOfSymbol}
 use Rattle.molecule.proofs.KindsTable.{symbolOf-kindOfSymbol}
 use Rattle.kinds.proofs.Arrays.{no-capital}
 use Rattle.table.proofs.ListLaws.{find-le}
-use Rattle.ctfile.specs.Fields.{areBlank, columns, isText, unled, untrailed, numberIn, sizeIn}
+use Rattle.ctfile.specs.Fields.{areBlank, columns, isText, unled, untrailed, sizeIn}
 use Rattle.ctfile.specs.Forms.{numberAt, isVersion, isCountsLine, kindIn, isAtomLine, isBondLine, fromOne, bondIn}
 use Rattle.molfile.proofs.FieldLaws.{columns-three}
 

@@ -6,7 +6,7 @@ use mathlib.Core.Bool.{Bool, true, false, cond, _&&_}
 use native.Mathlib.Numerals.{add-one}
 use native.Mathlib.Omega.{arith}
 use lib.ListN.{length, getD, take, drop, length-drop, drop-of-length-le}
-use lib.Seq.{drop-cons, drop-drop, drop-length, getD-drop, take-all}
+use lib.Seq.{drop-cons, drop-drop, getD-drop, take-all}
 use lib.Dec.{eqb}
 use borrow.Author.Tests.{eq-eqb, ne-eqb, eqb-true}
 use Rattle.lists.proofs.Booleans.{and-both}
@@ -132,7 +132,8 @@ module _ (s : List ℕ) (at : ℕ) (h : at < length s) where
         cut = omega arith;
         ahead = omega arith;
         within = omega arith;
-        bytes = take-all (length s - at) (drop at s) (omega (arith, long)) ∙ sym (bare-bytes (drop at s) (λ m x y z. omega arith) ∙ take-all (lineFeed (drop at s)) (drop at s) n);
+        bytes = take-all (length s - at) (drop at s) (omega (arith, long)) ∙ sym
+            (bare-bytes (drop at s) (λ m x y z. omega arith) ∙ take-all (lineFeed (drop at s)) (drop at s) n);
         lines = first ∙ ap (λ (r : List rules.Line). lineOf s at ∷ r) (no-feed (drop at s) at n ∙ sym (no-lines s (length s) (omega arith)));
       }
 

@@ -1,14 +1,13 @@
 -- What the sections of a file hold, line by line.
-use Prim.Native.Nat.{ℕ, zero, suc, _+_, _≤_, _<_}
-use mathlib.Core.Path.{_≡_, refl, sym, ap, _∙_}
+use Prim.Native.Nat.{ℕ, _+_, _≤_, _<_}
+use mathlib.Core.Path.{_≡_, sym, ap, _∙_}
 use mathlib.Core.List.{List, [], _∷_, _++_}
-use mathlib.Core.Bool.{Bool, true, false, _&&_}
+use mathlib.Core.Bool.{true, false, _&&_}
 use mathlib.Core.Logic.{_≢_}
 use native.Mathlib.Numerals.{add-one}
 use native.Mathlib.Omega.{arith}
-use lib.ListN.{length, getD, take, drop, set, length-set}
+use lib.ListN.{length, getD, take, drop, set}
 use lib.Seq.{take-suc-set, getD-set-same, getD-set-other}
-use lib.Dec.{ltb}
 use borrow.Author.Tests.{ltb-true}
 use Rattle.lists.specs.Upto.{each}
 use Rattle.lists.proofs.Upto.{each-eq}
@@ -55,10 +54,16 @@ module _ (s : List ℕ) (at n k p : ℕ) (r : Line) (h : k < n) (R : IsLine s p 
             λ i. record { one = getD-set-other one k j (b .one) 0 n i; two = getD-set-other two k j (b .two) 0 n i; code = getD-set-other codes k j (b .code) 0 n i }
 
         last : new k ≡ b
-        last = λ i. record { one = getD-set-same one k (b .one) 0 (L .0) i; two = getD-set-same two k (b .two) 0 (L .1) i; code = getD-set-same codes k (b .code) 0 (L .2) i }
+        last = λ i. record {
+          one = getD-set-same one k (b .one) 0 (L .0) i;
+          two = getD-set-same two k (b .two) 0 (L .1) i;
+          code = getD-set-same codes k
+              (b .code) 0 (L .2) i;
+        }
 
     bonds-next : Kept bondOn s at n k p (each k (bondOf one two codes))
-        → Kept bondOn s at n (k + 1) (r .next) (each (k + 1) (bondOf (set one k (bondOn (lineOf s p) .one)) (set two k (bondOn (lineOf s p) .two)) (set codes k (bondOn (lineOf s p) .code))))
+        → Kept bondOn s at n (k + 1) (r .next) (each (k + 1) (bondOf (set one k (bondOn (lineOf s p) .one)) (set two k (bondOn (lineOf s p) .two))
+        (set codes k (bondOn (lineOf s p) .code))))
     bonds-next K = rw (stored (bondOn (lineOf s p))) (kept-next bondOn s at n k p (each k (bondOf one two codes)) r h R K)
 
     pub bonds-put : (l one′ two′ codes′ : List ℕ) → l ≡ lineBytes (drop p s)

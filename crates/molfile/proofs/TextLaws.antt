@@ -1,5 +1,5 @@
 -- A text compared with the columns of a line, byte by byte.
-use Prim.Native.Nat.{ℕ, zero, suc, _+_, _≤_, _<_, compare, Ordering, Ordering·lt, Ordering·eq, Ordering·gt}
+use Prim.Native.Nat.{ℕ, suc, _+_, _≤_, _<_, compare, Ordering, Ordering·lt, Ordering·eq, Ordering·gt}
 use mathlib.Core.Path.{_≡_, refl, sym, ap, _∙_}
 use mathlib.Core.List.{List, [], _∷_}
 use mathlib.Core.Bool.{Bool, true, false, _&&_}
@@ -7,10 +7,9 @@ use native.Mathlib.Nat.{zero-add}
 use native.Mathlib.Numerals.{add-one}
 use native.Mathlib.Omega.{arith}
 use lib.ListN.{length, getD, take, drop, drop-of-length-le, length-take}
-use lib.Seq.{drop-cons, length-take-le}
+use lib.Seq.{drop-cons}
 use lib.Dec.{eqb, isEq}
 use borrow.Author.Tests.{eq-eqb, ne-eqb}
-use Rattle.lists.specs.Upto.{each}
 use Rattle.lists.specs.Order.{orElse, lex}
 use Rattle.lists.proofs.Upto.{getD-each, length-each, each-eq, each-take}
 use Rattle.ctfile.specs.Fields.{columns}

@@ -1,8 +1,6 @@
 -- One law of FilingLaws for each return.
-use Prim.Native.Nat.{ℕ}
 use mathlib.Core.Bool.{Bool}
-use mathlib.Core.Path.{_≡_, refl, sym, _∙_, ap, subst}
-use native.Mathlib.Omega.{arith}
+use mathlib.Core.Path.{refl, sym, _∙_, ap, subst}
 use Rattle.molfile.specs.Passing.{ending}
 use Rattle.molfile.specs.Filing.{IsFiled}
 use Rattle.molfile.proofs.FilingLaws.{header-broken, counts-broken, atoms-broken, bonds-broken, ended, drawn-is, filed-broken}
@@ -10,14 +8,6 @@ use Rattle.molfile.proofs.SectionLaws.{never}
 use borrow.Author.Needs.{needs}
 use Rattle.molfile.proofs.filed.Statement.{statement}
 use Rattle.molfile.proofs.filed.Tie as tie
-use Rattle.molfile.proofs.filed.Reads as reads
-use Rattle.molfile.proofs.filed.Lts as lts
-use Rattle.molfile.proofs.outcome.broken_at.Reads as broken-at-reads
-use Rattle.molfile.proofs.sections.atoms.Reads as atoms-reads
-use Rattle.molfile.proofs.sections.bonds.Reads as bonds-reads
-use Rattle.molfile.proofs.sections.counts.Reads as counts-reads
-use Rattle.molfile.proofs.sections.header.Reads as header-reads
-use Rattle.molfile.proofs.sections.properties.Reads as properties-reads
 
 header-requires : tie.Need-header-requires
 header-requires c κs = search needs
@@ -38,8 +28,11 @@ broken-at-requires-2 c κs = search needs
 
 returns-2 : tie.Need-returns-2
 returns-2 c =
+    let header = c .before .before .before .before .header in
+    let if1 = c .before .before .before .if1 in
+    let counts = c .before .before .counts in
     subst (IsFiled _ _ _ _ _ _ _ _ _) (sym (c .broken-at2 .ensures))
-    (filed-broken _ _ _ _ _ _ _ _ _ _ (counts-broken _ _ (c .before .before .before .before .header .ensures) (c .before .before .before .if1 .left) _ (c .before .before .counts .ensures) (c .before .if2 .taken)) refl (refl, refl, refl))
+    (filed-broken _ _ _ _ _ _ _ _ _ _ (counts-broken _ _ (header .ensures) (if1 .left) _ (counts .ensures) (c .before .if2 .taken)) refl (refl, refl, refl))
 
 atoms-requires : tie.Need-atoms-requires
 atoms-requires c κs = c .before .before .counts .ensures .fewAtoms
@@ -49,8 +42,14 @@ broken-at-requires-3 c κs = search needs
 
 returns-3 : tie.Need-returns-3
 returns-3 c =
+    let header = c .before .before .before .before .before .before .before .header in
+    let if1 = c .before .before .before .before .before .before .if1 in
+    let counts = c .before .before .before .before .before .counts in
+    let if2 = c .before .before .before .before .if2 in
+    let atoms = c .before .before .atoms in
     subst (IsFiled _ _ _ _ _ _ _ _ _) (sym (c .broken-at3 .ensures))
-    (filed-broken _ _ _ _ _ _ _ _ _ _ (atoms-broken _ _ (c .before .before .before .before .before .before .before .header .ensures) (c .before .before .before .before .before .before .if1 .left) _ (c .before .before .before .before .before .counts .ensures) (c .before .before .before .before .if2 .left) _ (c .before .before .atoms .ensures .0) (c .before .if3 .taken)) (c .before .before .atoms .ensures .1 .kept) (refl, refl, refl))
+    (filed-broken _ _ _ _ _ _ _ _ _ _ (atoms-broken _ _ (header .ensures) (if1 .left) _ (counts .ensures) (if2 .left) _ (atoms .ensures .0)
+    (c .before .if3 .taken)) (atoms .ensures .1 .kept) (refl, refl, refl))
 
 bonds-requires : tie.Need-bonds-requires
 bonds-requires c κs = c .before .before .before .before .before .before .before .counts .ensures .fewBonds
@@ -60,8 +59,16 @@ broken-at-requires-4 c κs = search needs
 
 returns-4 : tie.Need-returns-4
 returns-4 c =
+    let header = c .before .before .before .before .before .before .before .before .before .before .before .before .header in
+    let if1 = c .before .before .before .before .before .before .before .before .before .before .before .if1 in
+    let counts = c .before .before .before .before .before .before .before .before .before .before .counts in
+    let if2 = c .before .before .before .before .before .before .before .before .before .if2 in
+    let atoms = c .before .before .before .before .before .before .before .atoms in
+    let if3 = c .before .before .before .before .before .before .if3 in
+    let bonds = c .before .before .bonds in
     subst (IsFiled _ _ _ _ _ _ _ _ _) (sym (c .broken-at4 .ensures))
-    (filed-broken _ _ _ _ _ _ _ _ _ _ (bonds-broken _ _ (c .before .before .before .before .before .before .before .before .before .before .before .before .header .ensures) (c .before .before .before .before .before .before .before .before .before .before .before .if1 .left) _ (c .before .before .before .before .before .before .before .before .before .before .counts .ensures) (c .before .before .before .before .before .before .before .before .before .if2 .left) _ (c .before .before .before .before .before .before .before .atoms .ensures .0) (c .before .before .before .before .before .before .if3 .left) _ (c .before .before .bonds .ensures .0) (c .before .if4 .taken)) (c .before .before .before .before .before .before .before .atoms .ensures .1 .kept) (c .before .before .bonds .ensures .1 .kept))
+    (filed-broken _ _ _ _ _ _ _ _ _ _ (bonds-broken _ _ (header .ensures) (if1 .left) _ (counts .ensures) (if2 .left) _ (atoms .ensures .0) (if3 .left) _
+    (bonds .ensures .0) (c .before .if4 .taken)) (atoms .ensures .1 .kept) (bonds .ensures .1 .kept))
 
 properties-requires : tie.Need-properties-requires
 properties-requires c κs = search needs
@@ -71,22 +78,44 @@ broken-at-requires-5 c κs = search needs
 
 returns-5 : tie.Need-returns-5
 returns-5 c =
+    let header = c .before .before .before .before .before .before .before .before .before .before .before .before .before .before .header in
+    let if1 = c .before .before .before .before .before .before .before .before .before .before .before .before .before .if1 in
+    let counts = c .before .before .before .before .before .before .before .before .before .before .before .before .counts in
+    let if2 = c .before .before .before .before .before .before .before .before .before .before .before .if2 in
+    let atoms = c .before .before .before .before .before .before .before .before .before .atoms in
+    let if3 = c .before .before .before .before .before .before .before .before .if3 in
+    let bonds = c .before .before .before .before .bonds in
+    let if4 = c .before .before .before .if4 in
+    let properties = c .before .before .properties in
     subst (IsFiled _ _ _ _ _ _ _ _ _) (sym (c .broken-at5 .ensures))
-    (filed-broken _ _ _ _ _ _ _ _ _ _ (ended _ _ (c .before .before .before .before .before .before .before .before .before .before .before .before .before .before .header .ensures) (c .before .before .before .before .before .before .before .before .before .before .before .before .before .if1 .left) _ (c .before .before .before .before .before .before .before .before .before .before .before .before .counts .ensures) (c .before .before .before .before .before .before .before .before .before .before .before .if2 .left) _ (c .before .before .before .before .before .before .before .before .before .atoms .ensures .0) (c .before .before .before .before .before .before .before .before .if3 .left) _ (c .before .before .before .before .bonds .ensures .0) (c .before .before .before .if4 .left) (c .before .before .properties .result) (c .before .before .properties .ensures) ∙ ap (λ (x : Bool). ending x (c .before .before .properties .result .place)) (c .before .if5 .taken)) (c .before .before .before .before .before .before .before .before .before .atoms .ensures .1 .kept) (c .before .before .before .before .bonds .ensures .1 .kept))
+    (filed-broken _ _ _ _ _ _ _ _ _ _ (ended _ _ (header .ensures) (if1 .left) _ (counts .ensures) (if2 .left) _ (atoms .ensures .0) (if3 .left) _
+    (bonds .ensures .0) (if4 .left) (properties .result) (properties .ensures) ∙ ap (λ (x : Bool). ending x (properties .result .place))
+    (c .before .if5 .taken)) (atoms .ensures .1 .kept) (bonds .ensures .1 .kept))
 
 returns-6 : tie.Need-returns-6
 returns-6 c =
-    let A = c .before .before .before .before .before .before .before .before .atoms .ensures .1 in
-    let B = c .before .before .before .bonds .ensures .1 in
-    let L = c .before .before .before .bonds .last in
+    let header = c .before .before .before .before .before .before .before .before .before .before .before .before .before .header in
+    let if1 = c .before .before .before .before .before .before .before .before .before .before .before .before .if1 in
+    let counts = c .before .before .before .before .before .before .before .before .before .before .before .counts in
+    let if2 = c .before .before .before .before .before .before .before .before .before .before .if2 in
+    let atoms = c .before .before .before .before .before .before .before .before .atoms in
+    let if3 = c .before .before .before .before .before .before .before .if3 in
+    let bonds = c .before .before .before .bonds in
+    let if4 = c .before .before .if4 in
+    let A = atoms .ensures .1 in
+    let B = bonds .ensures .1 in
+    let L = bonds .last in
     record {
       stopped = λ x. never (sym x);
-      passed = λ x. ended _ _ (c .before .before .before .before .before .before .before .before .before .before .before .before .before .header .ensures) (c .before .before .before .before .before .before .before .before .before .before .before .before .if1 .left) _ (c .before .before .before .before .before .before .before .before .before .before .before .counts .ensures) (c .before .before .before .before .before .before .before .before .before .before .if2 .left) _ (c .before .before .before .before .before .before .before .before .atoms .ensures .0) (c .before .before .before .before .before .before .before .if3 .left) _ (c .before .before .before .bonds .ensures .0) (c .before .before .if4 .left) (c .before .properties .result) (c .before .properties .ensures) ∙ ap (λ (x : Bool). ending x (c .before .properties .result .place)) (c .if5 .left);
-      drawing = λ l m x. drawn-is _ _ (c .before .before .before .before .before .before .before .before .before .before .before .before .before .header .ensures) (c .before .before .before .before .before .before .before .before .before .before .before .before .if1 .left) _ (c .before .before .before .before .before .before .before .before .before .before .before .counts .ensures) (c .before .before .before .before .before .before .before .before .before .before .if2 .left) _ (c .before .before .before .before .before .before .before .before .atoms .ensures .0) (c .before .before .before .before .before .before .before .if3 .left) _ (c .before .before .before .bonds .ensures .0) _ (L .1 .1 .1 .0) (L .1 .1 .1 .1 .0) (L .1 .1 .1 .1 .1 .0) (A .are l (c .before .before .before .before .before .before .before .if3 .left)) (B .are m (c .before .before .if4 .left));
+      passed = λ x. ended _ _ (header .ensures) (if1 .left) _ (counts .ensures) (if2 .left) _ (atoms .ensures .0) (if3 .left) _ (bonds .ensures .0)
+          (if4 .left) (c .before .properties .result) (c .before .properties .ensures) ∙ ap (λ (x : Bool). ending x (c .before .properties .result .place))
+          (c .if5 .left);
+      drawing = λ l m x. drawn-is _ _ (header .ensures) (if1 .left) _ (counts .ensures) (if2 .left) _ (atoms .ensures .0) (if3 .left) _ (bonds .ensures .0) _
+          (L .1 .1 .1 .0) (L .1 .1 .1 .1 .0) (L .1 .1 .1 .1 .1 .0) (A .are l (if3 .left)) (B .are m (if4 .left));
       kindsKept = A .kept;
       bondsKept = B .kept;
-      atoms = c .before .before .before .before .before .before .before .before .before .before .before .counts .ensures .fewAtoms;
-      bonds = c .before .before .before .before .before .before .before .before .before .before .before .counts .ensures .fewBonds;
+      atoms = counts .ensures .fewAtoms;
+      bonds = counts .ensures .fewBonds;
     }
 
 pub filed-spec : {M : Type 1} → statement M

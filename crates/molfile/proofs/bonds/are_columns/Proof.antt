@@ -2,8 +2,6 @@
 use borrow.Author.Tests.{lt-ltb, le-ltb, le-leb, lt-leb}
 use Rattle.molfile.proofs.bonds.are_columns.Statement.{statement}
 use Rattle.molfile.proofs.bonds.are_columns.Tie as tie
-use Rattle.molfile.proofs.bonds.are_columns.Reads as reads
-use Rattle.molfile.proofs.bonds.are_columns.Lts as lts
 
 returns : tie.Need-returns
 returns c = simp (lt-leb _ _ (c .if1 .taken))

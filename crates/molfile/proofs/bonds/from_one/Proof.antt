@@ -1,11 +1,8 @@
 -- One before a number that is not 0.
 use Rattle.molfile.proofs.FormLaws.{less}
-use native.Mathlib.Omega.{arith}
 use borrow.Author.Needs.{needs}
 use Rattle.molfile.proofs.bonds.from_one.Statement.{statement}
 use Rattle.molfile.proofs.bonds.from_one.Tie as tie
-use Rattle.molfile.proofs.bonds.from_one.Reads as reads
-use Rattle.molfile.proofs.bonds.from_one.Lts as lts
 
 returns : tie.Need-returns
 returns c = search needs

@@ -6,11 +6,6 @@ use Rattle.molfile.proofs.FormLaws.{bond-line, bond-first, bond-second,
 use borrow.Author.Needs.{needs}
 use Rattle.molfile.proofs.bonds.put_bond.Statement.{statement}
 use Rattle.molfile.proofs.bonds.put_bond.Tie as tie
-use Rattle.molfile.proofs.bonds.put_bond.Reads as reads
-use Rattle.molfile.proofs.bonds.put_bond.Lts as lts
-use Rattle.molfile.proofs.bonds.are_columns.Reads as are-columns-reads
-use Rattle.molfile.proofs.bonds.from_one.Reads as from-one-reads
-use Rattle.molfile.proofs.field.number_at.Reads as number-at-reads
 
 number-at-requires : tie.Need-number-at-requires
 number-at-requires c κs = search needs
@@ -49,11 +44,16 @@ are-columns-requires : tie.Need-are-columns-requires
 are-columns-requires c κs = search needs
 
 returns : tie.Need-returns
-returns c = (
-      c .are-columns .ensures ∙ bond-line (c .before .before .before .before .before .before .before .args .line .now) _ _ _ (c .before .before .before .before .before .number-at .ensures .is) (c .before .before .before .before .number-at2 .ensures .is) (c .before .before .before .number-at3 .ensures .is),
-      ap (λ (x : ℕ). set (c .before .before .before .before .before .before .before .args .one .now) (c .before .before .before .before .before .before .before .args .k) x) (bond-first (c .before .before .before .before .before .before .before .args .line .now) _ _ (c .before .before .from-one .ensures) (c .before .before .before .before .before .number-at .ensures .is)),
-      ap (λ (x : ℕ). set (c .before .before .before .before .before .before .before .args .two .now) (c .before .before .before .before .before .before .before .args .k) x) (bond-second (c .before .before .before .before .before .before .before .args .line .now) _ _ (c .before .from-one2 .ensures) (c .before .before .before .before .number-at2 .ensures .is)),
-      ap (λ (x : ℕ). set (c .before .before .before .before .before .before .before .args .codes .now) (c .before .before .before .before .before .before .before .args .k) x) (bond-third (c .before .before .before .before .before .before .before .args .line .now) _ (c .before .before .before .number-at3 .ensures .is)),
+returns c =
+    let args = c .before .before .before .before .before .before .before .args in
+    let number-at = c .before .before .before .before .before .number-at in
+    let number-at2 = c .before .before .before .before .number-at2 in
+    let number-at3 = c .before .before .before .number-at3 in
+    let from-one = c .before .before .from-one in (
+      c .are-columns .ensures ∙ bond-line (args .line .now) _ _ _ (number-at .ensures .is) (number-at2 .ensures .is) (number-at3 .ensures .is),
+      ap (λ (x : ℕ). set (args .one .now) (args .k) x) (bond-first (args .line .now) _ _ (from-one .ensures) (number-at .ensures .is)),
+      ap (λ (x : ℕ). set (args .two .now) (args .k) x) (bond-second (args .line .now) _ _ (c .before .from-one2 .ensures) (number-at2 .ensures .is)),
+      ap (λ (x : ℕ). set (args .codes .now) (args .k) x) (bond-third (args .line .now) _ (number-at3 .ensures .is)),
     )
 
 pub put-bond-spec : {M : Type 1} → statement M

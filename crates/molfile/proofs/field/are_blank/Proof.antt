@@ -4,8 +4,6 @@ use Rattle.lists.specs.Tests.{every}
 use mathlib.Core.Bool.{and-true}
 use Rattle.molfile.proofs.field.are_blank.Statement.{statement}
 use Rattle.molfile.proofs.field.are_blank.Tie as tie
-use Rattle.molfile.proofs.field.are_blank.Reads as reads
-use Rattle.molfile.proofs.field.are_blank.Lts as lts
 
 returns : tie.Need-returns
 unfolding every

@@ -2,13 +2,9 @@
 use Rattle.molfile.proofs.FieldLaws.{within}
 use mathlib.Core.Path.{sym}
 use lib.ListN.{List·getD-eq-default}
-use lib.ListN.{getD}
-use native.Mathlib.Omega.{arith}
 use borrow.Author.Needs.{needs}
 use Rattle.molfile.proofs.field.column.Statement.{statement}
 use Rattle.molfile.proofs.field.column.Tie as tie
-use Rattle.molfile.proofs.field.column.Reads as reads
-use Rattle.molfile.proofs.field.column.Lts as lts
 
 shared-slice-read-result : tie.Need-shared-slice-read-result
 shared-slice-read-result c = search needs

@@ -4,8 +4,6 @@ use Rattle.molfile.proofs.FieldLaws.{digit-low}
 use borrow.Author.Needs.{needs}
 use Rattle.molfile.proofs.field.digit_more.Statement.{statement}
 use Rattle.molfile.proofs.field.digit_more.Tie as tie
-use Rattle.molfile.proofs.field.digit_more.Reads as reads
-use Rattle.molfile.proofs.field.digit_more.Lts as lts
 
 mul-result : tie.Need-mul-result
 mul-result c = search needs

@@ -2,8 +2,6 @@
 use borrow.Author.Tests.{le-leb, lt-leb}
 use Rattle.molfile.proofs.field.is_digit.Statement.{statement}
 use Rattle.molfile.proofs.field.is_digit.Tie as tie
-use Rattle.molfile.proofs.field.is_digit.Reads as reads
-use Rattle.molfile.proofs.field.is_digit.Lts as lts
 
 returns : tie.Need-returns
 returns c = simp (lt-leb _ _ (c .if1 .taken))

@@ -3,9 +3,6 @@ use borrow.Author.Tests.{eq-eqb, ne-eqb}
 use borrow.Author.Needs.{needs}
 use Rattle.molfile.proofs.field.is_signed.Statement.{statement}
 use Rattle.molfile.proofs.field.is_signed.Tie as tie
-use Rattle.molfile.proofs.field.is_signed.Reads as reads
-use Rattle.molfile.proofs.field.is_signed.Lts as lts
-use Rattle.molfile.proofs.field.is_digit.Reads as is-digit-reads
 
 is-digit-requires : tie.Need-is-digit-requires
 is-digit-requires c κs = search needs

@@ -5,10 +5,6 @@ use Rattle.molfile.proofs.FieldLaws.{digit-low, last-digit, last-blank,
 use borrow.Author.Needs.{needs}
 use Rattle.molfile.proofs.field.last_of.Statement.{statement}
 use Rattle.molfile.proofs.field.last_of.Tie as tie
-use Rattle.molfile.proofs.field.last_of.Reads as reads
-use Rattle.molfile.proofs.field.last_of.Lts as lts
-use Rattle.molfile.proofs.field.digit_more.Reads as digit-more-reads
-use Rattle.molfile.proofs.field.is_digit.Reads as is-digit-reads
 
 is-digit-requires : tie.Need-is-digit-requires
 is-digit-requires c κs = search needs
@@ -17,7 +13,14 @@ digit-more-requires : tie.Need-digit-more-requires
 digit-more-requires c κs = (c .before .before .pre, sym (c .before .is-digit .ensures) ∙ c .if1 .taken)
 
 returns : tie.Need-returns
-returns c = record { is = c .digit-more .ensures ∙ last-digit _ _ (sym (c .before .before .is-digit .ensures) ∙ c .before .if1 .taken); small = omega (arith, c .digit-more .ensures, digit-low (c .before .before .before .args .c) (sym (c .before .before .is-digit .ensures) ∙ c .before .if1 .taken)) }
+returns c =
+    let args = c .before .before .before .args in
+    let is-digit = c .before .before .is-digit in
+    record {
+      is = c .digit-more .ensures ∙ last-digit _ _ (sym (is-digit .ensures) ∙ c .before .if1 .taken);
+      small = omega
+          (arith, c .digit-more .ensures, digit-low (args .c) (sym (is-digit .ensures) ∙ c .before .if1 .taken));
+    }
 
 returns-2 : tie.Need-returns-2
 returns-2 c = record { is = last-blank _ _ (c .if2 .taken); small = omega arith }

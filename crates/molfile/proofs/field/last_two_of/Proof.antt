@@ -8,11 +8,6 @@ use Rattle.molfile.proofs.FieldLaws.{digit-low, two-digit, two-none, tw
 use borrow.Author.Needs.{needs}
 use Rattle.molfile.proofs.field.last_two_of.Statement.{statement}
 use Rattle.molfile.proofs.field.last_two_of.Tie as tie
-use Rattle.molfile.proofs.field.last_two_of.Reads as reads
-use Rattle.molfile.proofs.field.last_two_of.Lts as lts
-use Rattle.molfile.proofs.field.digit_more.Reads as digit-more-reads
-use Rattle.molfile.proofs.field.is_digit.Reads as is-digit-reads
-use Rattle.molfile.proofs.field.last_of.Reads as last-of-reads
 
 is-digit-requires : tie.Need-is-digit-requires
 is-digit-requires c κs = search needs
@@ -21,10 +16,21 @@ digit-more-requires : tie.Need-digit-more-requires
 digit-more-requires c κs = (omega arith, sym (c .before .is-digit .ensures) ∙ c .if1 .taken)
 
 last-of-requires : tie.Need-last-of-requires
-last-of-requires c κs = omega (arith, c .digit-more .ensures, digit-low (c .before .before .before .args .b) (sym (c .before .before .is-digit .ensures) ∙ c .before .if1 .taken))
+last-of-requires c κs =
+    let args = c .before .before .before .args in
+    let is-digit = c .before .before .is-digit in
+    omega (arith, c .digit-more .ensures, digit-low (args .b) (sym (is-digit .ensures) ∙ c .before .if1 .taken))
 
 returns : tie.Need-returns
-returns c = record { is = c .last-of .ensures .is ∙ ap (λ (v : ℕ). decimal v (c .before .before .before .before .args .c ∷ [])) (c .before .digit-more .ensures) ∙ two-digit _ _ _ (sym (c .before .before .before .is-digit .ensures) ∙ c .before .before .if1 .taken); small = c .last-of .ensures .small }
+returns c =
+    let args = c .before .before .before .before .args in
+    let is-digit = c .before .before .before .is-digit in
+    let if1 = c .before .before .if1 in
+    record {
+      is = c .last-of .ensures .is ∙ ap (λ (v : ℕ). decimal v (args .c ∷ [])) (c .before .digit-more .ensures) ∙ two-digit _ _ _
+          (sym (is-digit .ensures) ∙ if1 .taken);
+      small = c .last-of .ensures .small;
+    }
 
 returns-2 : tie.Need-returns-2
 returns-2 c = record { is = two-none _ _ _ (sym (c .before .before .is-digit .ensures) ∙ c .before .if1 .left) (c .if2 .taken); small = omega arith }

@@ -1,14 +1,9 @@
 -- The three columns are those of the definition.
 use mathlib.Core.Path.{_∙_}
-use Rattle.ctfile.specs.Fields.{numberIn}
 use Rattle.molfile.proofs.FieldLaws.{columns-three}
 use borrow.Author.Needs.{needs}
 use Rattle.molfile.proofs.field.number_at.Statement.{statement}
 use Rattle.molfile.proofs.field.number_at.Tie as tie
-use Rattle.molfile.proofs.field.number_at.Reads as reads
-use Rattle.molfile.proofs.field.number_at.Lts as lts
-use Rattle.molfile.proofs.field.column.Reads as column-reads
-use Rattle.molfile.proofs.field.number_of.Reads as number-of-reads
 
 column-requires : tie.Need-column-requires
 column-requires c κs = search needs
@@ -29,7 +24,10 @@ number-of-requires : tie.Need-number-of-requires
 number-of-requires c κs = search needs
 
 returns : tie.Need-returns
-returns c = record { is = c .number-of .ensures .is ∙ rw (c .before .before .before .column .ensures, c .before .before .column2 .ensures, c .before .column3 .ensures, columns-three); small = c .number-of .ensures .small }
+returns c =
+    let column = c .before .before .before .column in
+    let column2 = c .before .before .column2 in
+    record { is = c .number-of .ensures .is ∙ rw (column .ensures, column2 .ensures, c .before .column3 .ensures, columns-three); small = c .number-of .ensures .small }
 
 pub number-at-spec : {M : Type 1} → statement M
 number-at-spec =

@@ -1,14 +1,9 @@
 -- The three columns are those of the definition.
 use mathlib.Core.Path.{_∙_}
-use Rattle.ctfile.specs.Fields.{sizeIn}
 use Rattle.molfile.proofs.FieldLaws.{columns-three}
 use borrow.Author.Needs.{needs}
 use Rattle.molfile.proofs.field.size_at.Statement.{statement}
 use Rattle.molfile.proofs.field.size_at.Tie as tie
-use Rattle.molfile.proofs.field.size_at.Reads as reads
-use Rattle.molfile.proofs.field.size_at.Lts as lts
-use Rattle.molfile.proofs.field.column.Reads as column-reads
-use Rattle.molfile.proofs.field.size_of.Reads as size-of-reads
 
 column-requires : tie.Need-column-requires
 column-requires c κs = search needs
@@ -29,7 +24,10 @@ size-of-requires : tie.Need-size-of-requires
 size-of-requires c κs = search needs
 
 returns : tie.Need-returns
-returns c = record { is = c .size-of .ensures .is ∙ rw (c .before .before .before .column .ensures, c .before .before .column2 .ensures, c .before .column3 .ensures, columns-three); small = c .size-of .ensures .small }
+returns c =
+    let column = c .before .before .before .column in
+    let column2 = c .before .before .column2 in
+    record { is = c .size-of .ensures .is ∙ rw (column .ensures, column2 .ensures, c .before .column3 .ensures, columns-three); small = c .size-of .ensures .small }
 
 pub size-at-spec : {M : Type 1} → statement M
 size-at-spec =

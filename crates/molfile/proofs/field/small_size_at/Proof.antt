@@ -4,10 +4,6 @@ use Rattle.molfile.proofs.FieldLaws.{columns-two, size-two}
 use borrow.Author.Needs.{needs}
 use Rattle.molfile.proofs.field.small_size_at.Statement.{statement}
 use Rattle.molfile.proofs.field.small_size_at.Tie as tie
-use Rattle.molfile.proofs.field.small_size_at.Reads as reads
-use Rattle.molfile.proofs.field.small_size_at.Lts as lts
-use Rattle.molfile.proofs.field.column.Reads as column-reads
-use Rattle.molfile.proofs.field.size_of.Reads as size-of-reads
 
 column-requires : tie.Need-column-requires
 column-requires c κs = search needs
@@ -22,7 +18,9 @@ size-of-requires : tie.Need-size-of-requires
 size-of-requires c κs = search needs
 
 returns : tie.Need-returns
-returns c = record { is = c .size-of .ensures .is ∙ size-two _ _ ∙ rw (c .before .before .column .ensures, c .before .column2 .ensures, columns-two); small = c .size-of .ensures .small }
+returns c =
+    let column = c .before .before .column in
+    record { is = c .size-of .ensures .is ∙ size-two _ _ ∙ rw (column .ensures, c .before .column2 .ensures, columns-two); small = c .size-of .ensures .small }
 
 pub small-size-at-spec : {M : Type 1} → statement M
 small-size-at-spec =

@@ -6,12 +6,6 @@ use Rattle.molfile.proofs.FormLaws.{symbol-blank, atom-blank, atom-mass
 use borrow.Author.Needs.{needs}
 use Rattle.molfile.proofs.forms.is_atom_line.Statement.{statement}
 use Rattle.molfile.proofs.forms.is_atom_line.Tie as tie
-use Rattle.molfile.proofs.forms.is_atom_line.Reads as reads
-use Rattle.molfile.proofs.forms.is_atom_line.Lts as lts
-use Rattle.molfile.proofs.field.are_blank.Reads as are-blank-reads
-use Rattle.molfile.proofs.field.column.Reads as column-reads
-use Rattle.molfile.proofs.field.number_at.Reads as number-at-reads
-use Rattle.molfile.proofs.field.small_size_at.Reads as small-size-at-reads
 
 column-requires : tie.Need-column-requires
 column-requires c κs = search needs
@@ -26,19 +20,43 @@ are-blank-requires : tie.Need-are-blank-requires
 are-blank-requires c κs = search needs
 
 returns : tie.Need-returns
-returns c = atom-blank (c .before .before .before .before .before .before .args .line .now) (sym (symbol-blank (c .before .before .before .before .before .before .args .line .now) _ _ _ (c .before .before .before .before .column .ensures) (c .before .before .before .column2 .ensures) (c .before .before .column3 .ensures)) ∙ sym (c .before .are-blank .ensures) ∙ c .if1 .taken)
+returns c =
+    let args = c .before .before .before .before .before .before .args in
+    let column = c .before .before .before .before .column in
+    let column2 = c .before .before .before .column2 in
+    let column3 = c .before .before .column3 in
+    atom-blank (args .line .now) (sym (symbol-blank (args .line .now) _ _ _ (column .ensures) (column2 .ensures) (column3 .ensures)) ∙ sym
+    (c .before .are-blank .ensures) ∙ c .if1 .taken)
 
 small-size-at-requires : tie.Need-small-size-at-requires
 small-size-at-requires c κs = search needs
 
 returns-2 : tie.Need-returns-2
-returns-2 c = atom-mass (c .before .before .before .before .before .before .before .before .args .line .now) (sym (symbol-blank (c .before .before .before .before .before .before .before .before .args .line .now) _ _ _ (c .before .before .before .before .before .before .column .ensures) (c .before .before .before .before .before .column2 .ensures) (c .before .before .before .before .column3 .ensures)) ∙ sym (c .before .before .before .are-blank .ensures) ∙ c .before .before .if1 .left) (λ q. c .if2 .taken (c .before .small-size-at .ensures .is ∙ q))
+returns-2 c =
+    let args = c .before .before .before .before .before .before .before .before .args in
+    let column = c .before .before .before .before .before .before .column in
+    let column2 = c .before .before .before .before .before .column2 in
+    let column3 = c .before .before .before .before .column3 in
+    let are-blank = c .before .before .before .are-blank in
+    let if1 = c .before .before .if1 in
+    atom-mass (args .line .now) (sym (symbol-blank (args .line .now) _ _ _ (column .ensures) (column2 .ensures) (column3 .ensures)) ∙ sym (are-blank .ensures)
+    ∙ if1 .left) (λ q. c .if2 .taken (c .before .small-size-at .ensures .is ∙ q))
 
 number-at-requires : tie.Need-number-at-requires
 number-at-requires c κs = search needs
 
 returns-3 : tie.Need-returns-3
-returns-3 c = ap (λ (n : ℕ). eqb n 0) (c .number-at .ensures .is) ∙ atom-charge (c .before .before .before .before .before .before .before .before .before .args .line .now) (sym (symbol-blank (c .before .before .before .before .before .before .before .before .before .args .line .now) _ _ _ (c .before .before .before .before .before .before .before .column .ensures) (c .before .before .before .before .before .before .column2 .ensures) (c .before .before .before .before .before .column3 .ensures)) ∙ sym (c .before .before .before .before .are-blank .ensures) ∙ c .before .before .before .if1 .left) (sym (c .before .before .small-size-at .ensures .is) ∙ c .before .if2 .left)
+returns-3 c =
+    let args = c .before .before .before .before .before .before .before .before .before .args in
+    let column = c .before .before .before .before .before .before .before .column in
+    let column2 = c .before .before .before .before .before .before .column2 in
+    let column3 = c .before .before .before .before .before .column3 in
+    let are-blank = c .before .before .before .before .are-blank in
+    let if1 = c .before .before .before .if1 in
+    let small-size-at = c .before .before .small-size-at in
+    ap (λ (n : ℕ). eqb n 0) (c .number-at .ensures .is) ∙ atom-charge (args .line .now)
+    (sym (symbol-blank (args .line .now) _ _ _ (column .ensures) (column2 .ensures) (column3 .ensures)) ∙ sym (are-blank .ensures) ∙ if1 .left)
+    (sym (small-size-at .ensures .is) ∙ c .before .if2 .left)
 
 pub is-atom-line-spec : {M : Type 1} → statement M
 is-atom-line-spec =

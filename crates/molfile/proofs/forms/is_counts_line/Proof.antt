@@ -8,10 +8,6 @@ use Rattle.molfile.proofs.FormLaws.{counts-version, counts-atoms, count
 use borrow.Author.Needs.{needs}
 use Rattle.molfile.proofs.forms.is_counts_line.Statement.{statement}
 use Rattle.molfile.proofs.forms.is_counts_line.Tie as tie
-use Rattle.molfile.proofs.forms.is_counts_line.Reads as reads
-use Rattle.molfile.proofs.forms.is_counts_line.Lts as lts
-use Rattle.molfile.proofs.field.number_at.Reads as number-at-reads
-use Rattle.molfile.proofs.forms.is_version.Reads as is-version-reads
 
 is-version-requires : tie.Need-is-version-requires
 is-version-requires c κs = search needs
@@ -23,13 +19,23 @@ number-at-requires : tie.Need-number-at-requires
 number-at-requires c κs = search needs
 
 returns-2 : tie.Need-returns-2
-returns-2 c = counts-atoms (c .before .before .before .before .before .args .line .now) (sym (c .before .before .before .is-version .ensures) ∙ not-false _ (c .before .before .if1 .left)) (sym (c .before .number-at .ensures .is) ∙ c .if2 .taken)
+returns-2 c =
+    let args = c .before .before .before .before .before .args in
+    let is-version = c .before .before .before .is-version in
+    let if1 = c .before .before .if1 in
+    counts-atoms (args .line .now) (sym (is-version .ensures) ∙ not-false _ (if1 .left)) (sym (c .before .number-at .ensures .is) ∙ c .if2 .taken)
 
 number-at-requires-2 : tie.Need-number-at-requires-2
 number-at-requires-2 c κs = search needs
 
 returns-3 : tie.Need-returns-3
-returns-3 c = ap (λ (n : ℕ). ltb n 1000) (c .number-at2 .ensures .is) ∙ counts-bonds (c .before .before .before .before .before .before .args .line .now) (sym (c .before .before .before .before .is-version .ensures) ∙ not-false _ (c .before .before .before .if1 .left)) (omega (arith, c .before .before .number-at .ensures .is, c .before .before .number-at .ensures .small, c .before .if2 .left))
+returns-3 c =
+    let args = c .before .before .before .before .before .before .args in
+    let is-version = c .before .before .before .before .is-version in
+    let if1 = c .before .before .before .if1 in
+    let number-at = c .before .before .number-at in
+    ap (λ (n : ℕ). ltb n 1000) (c .number-at2 .ensures .is) ∙ counts-bonds (args .line .now) (sym (is-version .ensures) ∙ not-false _ (if1 .left))
+    (omega (arith, number-at .ensures .is, number-at .ensures .small, c .before .if2 .left))
 
 pub is-counts-line-spec : {M : Type 1} → statement M
 is-counts-line-spec =

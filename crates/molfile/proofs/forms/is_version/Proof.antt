@@ -4,9 +4,6 @@ use Rattle.molfile.proofs.FormLaws.{version-before, version-behind}
 use borrow.Author.Needs.{needs}
 use Rattle.molfile.proofs.forms.is_version.Statement.{statement}
 use Rattle.molfile.proofs.forms.is_version.Tie as tie
-use Rattle.molfile.proofs.forms.is_version.Reads as reads
-use Rattle.molfile.proofs.forms.is_version.Lts as lts
-use Rattle.molfile.proofs.forms.holds.Reads as holds-reads
 
 holds-requires : tie.Need-holds-requires
 holds-requires c κs = search needs
@@ -18,7 +15,11 @@ holds-requires-2 : tie.Need-holds-requires-2
 holds-requires-2 c κs = search needs
 
 returns-2 : tie.Need-returns-2
-returns-2 c = c .holds2 .ensures ∙ version-behind (c .before .before .before .before .before .before .args .line .now) (sym (c .before .before .before .holds .ensures) ∙ c .before .before .if1 .left)
+returns-2 c =
+    let args = c .before .before .before .before .before .before .args in
+    let holds = c .before .before .before .holds in
+    let if1 = c .before .before .if1 in
+    c .holds2 .ensures ∙ version-behind (args .line .now) (sym (holds .ensures) ∙ if1 .left)
 
 pub is-version-spec : {M : Type 1} → statement M
 is-version-spec = tie.close (tie.spec holds-requires returns holds-requires-2 returns-2)

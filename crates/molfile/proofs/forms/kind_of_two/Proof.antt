@@ -4,10 +4,6 @@ use Rattle.molfile.proofs.FormLaws.{kind-first, kind-second, kind-both}
 use borrow.Author.Needs.{needs}
 use Rattle.molfile.proofs.forms.kind_of_two.Statement.{statement}
 use Rattle.molfile.proofs.forms.kind_of_two.Tie as tie
-use Rattle.molfile.proofs.forms.kind_of_two.Reads as reads
-use Rattle.molfile.proofs.forms.kind_of_two.Lts as lts
-use Rattle.kinds.proofs.kind_of_capital.Reads as kind-of-capital-reads
-use Rattle.kinds.proofs.kind_of_letters.Reads as kind-of-letters-reads
 
 kind-of-capital-requires : tie.Need-kind-of-capital-requires
 kind-of-capital-requires c κs = search needs

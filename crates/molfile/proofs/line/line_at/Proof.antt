@@ -4,21 +4,25 @@ use Rattle.molfile.proofs.LineLaws.{line-last, line-bare, line-returned
 use borrow.Author.Needs.{needs}
 use Rattle.molfile.proofs.line.line_at.Statement.{statement}
 use Rattle.molfile.proofs.line.line_at.Tie as tie
-use Rattle.molfile.proofs.line.line_at.Reads as reads
-use Rattle.molfile.proofs.line.line_at.Lts as lts
-use Rattle.molfile.proofs.line.line_feed.Reads as line-feed-reads
 
 line-feed-requires : tie.Need-line-feed-requires
 line-feed-requires c κs = search needs
 
 returns : tie.Need-returns
-returns c = line-last (c .before .before .before .args .file .now) (c .before .before .before .args .at) (c .before .before .before .pre) (omega (arith, c .before .line-feed .ensures, c .if1 .taken))
+returns c =
+    let pre = c .before .before .before .pre in
+    let args = c .before .before .before .args in
+    line-last (args .file .now) (args .at) pre (omega (arith, c .before .line-feed .ensures, c .if1 .taken))
 
 add-t6 : tie.Need-add-t6
 add-t6 c = search needs
 
 returns-2 : tie.Need-returns-2
-returns-2 c = line-bare (c .before .before .before .before .args .file .now) (c .before .before .before .before .args .at) (c .before .before .before .before .pre) _ (c .before .before .line-feed .ensures) (c .before .if1 .left) (λ h e. omega (arith, h, c .if2 .taken))
+returns-2 c =
+    let pre = c .before .before .before .before .pre in
+    let args = c .before .before .before .before .args in
+    let line-feed = c .before .before .line-feed in
+    line-bare (args .file .now) (args .at) pre _ (line-feed .ensures) (c .before .if1 .left) (λ h e. omega (arith, h, c .if2 .taken))
 
 sub-if3 : tie.Need-sub-if3
 sub-if3 c = search needs
@@ -33,13 +37,24 @@ add-t11 : tie.Need-add-t11
 add-t11 c = search needs
 
 returns-3 : tie.Need-returns-3
-returns-3 c = line-returned (c .before .before .before .before .before .before .args .file .now) (c .before .before .before .before .before .before .args .at) (c .before .before .before .before .before .before .pre) _ (c .before .before .before .before .line-feed .ensures) (c .before .before .before .if1 .left) (omega (arith, c .before .before .before .before .line-feed .ensures, c .before .before .if2 .left)) (c .if3 .taken)
+returns-3 c =
+    let pre = c .before .before .before .before .before .before .pre in
+    let args = c .before .before .before .before .before .before .args in
+    let line-feed = c .before .before .before .before .line-feed in
+    let if1 = c .before .before .before .if1 in
+    let if2 = c .before .before .if2 in
+    line-returned (args .file .now) (args .at) pre _ (line-feed .ensures) (if1 .left) (omega (arith, line-feed .ensures, if2 .left)) (c .if3 .taken)
 
 add-t7 : tie.Need-add-t7
 add-t7 c = search needs
 
 returns-4 : tie.Need-returns-4
-returns-4 c = line-bare (c .before .before .before .before .before .before .args .file .now) (c .before .before .before .before .before .before .args .at) (c .before .before .before .before .before .before .pre) _ (c .before .before .before .before .line-feed .ensures) (c .before .before .before .if1 .left) (λ h e. c .if3 .left e)
+returns-4 c =
+    let pre = c .before .before .before .before .before .before .pre in
+    let args = c .before .before .before .before .before .before .args in
+    let line-feed = c .before .before .before .before .line-feed in
+    let if1 = c .before .before .before .if1 in
+    line-bare (args .file .now) (args .at) pre _ (line-feed .ensures) (if1 .left) (λ h e. c .if3 .left e)
 
 pub line-at-spec : {M : Type 1} → statement M
 line-at-spec =

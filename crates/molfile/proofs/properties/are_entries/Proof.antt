@@ -12,9 +12,6 @@ use Rattle.molfile.proofs.PropertyLaws.{every-more, every-not}
 use borrow.Author.Needs.{needs}
 use Rattle.molfile.proofs.properties.are_entries.Statement.{statement}
 use Rattle.molfile.proofs.properties.are_entries.Tie as tie
-use Rattle.molfile.proofs.properties.are_entries.Reads as reads
-use Rattle.molfile.proofs.properties.are_entries.Lts as lts
-use Rattle.molfile.proofs.properties.is_entry.Reads as is-entry-reads
 
 abbrev Inv-loop : tie.InvT-loop
 Inv-loop line atoms entries e₀ e = (e ≤ entries) × (every (each e (isEntry atoms line)) ≡ true)
@@ -30,7 +27,12 @@ is-entry-requires : tie.Need-is-entry-requires Inv-loop μ-loop
 is-entry-requires c κs = search needs
 
 returns : tie.Need-returns Inv-loop μ-loop
-returns c = sym (every-not (isEntry (c .before .before .before .before .before .args .atoms) (c .before .before .before .before .before .args .line .now)) (c .before .before .before .before .before .args .entries) (c .before .before .before .loop .e) (c .before .before .loop-test .taken) (sym (c .before .is-entry .ensures) ∙ not-true _ (c .if1 .taken)))
+returns c =
+    let args = c .before .before .before .before .before .args in
+    let loop = c .before .before .before .loop in
+    let loop-test = c .before .before .loop-test in
+    sym (every-not (isEntry (args .atoms) (args .line .now)) (args .entries) (loop .e) (loop-test .taken)
+    (sym (c .before .is-entry .ensures) ∙ not-true _ (c .if1 .taken)))
 
 add-e : tie.Need-add-e Inv-loop μ-loop
 add-e c = search needs
@@ -39,10 +41,15 @@ loop-less : tie.Need-loop-less Inv-loop μ-loop
 loop-less c = search needs
 
 loop-again : tie.Need-loop-again Inv-loop μ-loop
-loop-again c = (omega arith, every-more (isEntry (c .before .before .before .before .before .args .atoms) (c .before .before .before .before .before .args .line .now)) (c .before .before .before .loop .e) (c .before .before .before .loop .inv .1) (sym (c .before .is-entry .ensures) ∙ not-false _ (c .if1 .left)))
+loop-again c =
+    let args = c .before .before .before .before .before .args in
+    let loop = c .before .before .before .loop in
+    (omega arith, every-more (isEntry (args .atoms) (args .line .now)) (loop .e) (loop .inv .1) (sym (c .before .is-entry .ensures) ∙ not-false _ (c .if1 .left)))
 
 returns-2 : tie.Need-returns-2 Inv-loop μ-loop
-returns-2 c = let e : c .before .loop .e ≡ c .before .before .before .args .entries = omega arith in sym (c .before .loop .inv .1) ∙ ap (λ (k : ℕ). every (each k (isEntry (c .before .before .before .args .atoms) (c .before .before .before .args .line .now)))) e
+returns-2 c =
+    let args = c .before .before .before .args in
+    let e : c .before .loop .e ≡ args .entries = omega arith in sym (c .before .loop .inv .1) ∙ ap (λ (k : ℕ). every (each k (isEntry (args .atoms) (args .line .now)))) e
 
 pub are-entries-spec : {M : Type 1} → statement M
 are-entries-spec =

@@ -6,9 +6,6 @@ use Rattle.molfile.proofs.TextLaws.{same, columns-first, cut-off}
 use borrow.Author.Needs.{needs}
 use Rattle.molfile.proofs.properties.begins.Statement.{statement}
 use Rattle.molfile.proofs.properties.begins.Tie as tie
-use Rattle.molfile.proofs.properties.begins.Reads as reads
-use Rattle.molfile.proofs.properties.begins.Lts as lts
-use Rattle.molfile.proofs.forms.holds.Reads as holds-reads
 
 returns : tie.Need-returns
 returns c = cut-off (c .before .before .args .text .now) (c .before .before .args .line .now) 6 (c .before .before .pre) (c .if1 .taken)
@@ -17,7 +14,9 @@ holds-requires : tie.Need-holds-requires
 holds-requires c κs = search needs
 
 returns-2 : tie.Need-returns-2
-returns-2 c = c .holds .ensures ∙ ap (λ (ys : List ℕ). same (c .before .before .before .args .text .now) ys) (columns-first 6 (c .before .before .before .args .line .now) (c .before .if1 .left))
+returns-2 c =
+    let args = c .before .before .before .args in
+    c .holds .ensures ∙ ap (λ (ys : List ℕ). same (args .text .now) ys) (columns-first 6 (args .line .now) (c .before .if1 .left))
 
 pub begins-spec : {M : Type 1} → statement M
 begins-spec = tie.close (tie.spec returns holds-requires returns-2)

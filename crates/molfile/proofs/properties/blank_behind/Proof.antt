@@ -7,8 +7,6 @@ use Rattle.molfile.proofs.PropertyLaws.{blank-out, blank-not, blank-on}
 use borrow.Author.Needs.{needs}
 use Rattle.molfile.proofs.properties.blank_behind.Statement.{statement}
 use Rattle.molfile.proofs.properties.blank_behind.Tie as tie
-use Rattle.molfile.proofs.properties.blank_behind.Reads as reads
-use Rattle.molfile.proofs.properties.blank_behind.Lts as lts
 
 abbrev Inv-loop : tie.InvT-loop
 Inv-loop line k n i₀ i = areBlank (drop i line) ≡ areBlank (drop k line)
@@ -23,7 +21,11 @@ shared-slice-read-if1 : tie.Need-shared-slice-read-if1 Inv-loop μ-loop
 shared-slice-read-if1 c = search needs
 
 returns : tie.Need-returns Inv-loop μ-loop
-returns c = sym (blank-not (c .before .before .before .before .args .line .now) (c .before .before .before .loop .i) (c .before .before .loop-test .taken) (c .if1 .taken)) ∙ c .before .before .before .loop .inv
+returns c =
+    let args = c .before .before .before .before .args in
+    let loop = c .before .before .before .loop in
+    let loop-test = c .before .before .loop-test in
+    sym (blank-not (args .line .now) (loop .i) (loop-test .taken) (c .if1 .taken)) ∙ loop .inv
 
 add-i : tie.Need-add-i Inv-loop μ-loop
 add-i c = search needs
@@ -32,7 +34,11 @@ loop-less : tie.Need-loop-less Inv-loop μ-loop
 loop-less c = search needs
 
 loop-again : tie.Need-loop-again Inv-loop μ-loop
-loop-again c = sym (blank-on (c .before .before .before .before .args .line .now) (c .before .before .before .loop .i) (c .before .before .loop-test .taken) (c .if1 .left)) ∙ c .before .before .before .loop .inv
+loop-again c =
+    let args = c .before .before .before .before .args in
+    let loop = c .before .before .before .loop in
+    let loop-test = c .before .before .loop-test in
+    sym (blank-on (args .line .now) (loop .i) (loop-test .taken) (c .if1 .left)) ∙ loop .inv
 
 returns-2 : tie.Need-returns-2 Inv-loop μ-loop
 returns-2 c = sym (blank-out (c .before .before .args .line .now) (c .before .loop .i) (c .loop-test .left)) ∙ c .before .loop .inv

@@ -5,10 +5,6 @@ use Rattle.molfile.proofs.PropertyLaws.{end-other, end-rest}
 use borrow.Author.Needs.{needs}
 use Rattle.molfile.proofs.properties.is_end_line.Statement.{statement}
 use Rattle.molfile.proofs.properties.is_end_line.Tie as tie
-use Rattle.molfile.proofs.properties.is_end_line.Reads as reads
-use Rattle.molfile.proofs.properties.is_end_line.Lts as lts
-use Rattle.molfile.proofs.properties.begins.Reads as begins-reads
-use Rattle.molfile.proofs.properties.blank_behind.Reads as blank-behind-reads
 
 begins-requires : tie.Need-begins-requires
 begins-requires c κs = search needs
@@ -20,7 +16,10 @@ blank-behind-requires : tie.Need-blank-behind-requires
 blank-behind-requires c κs = search needs
 
 returns-2 : tie.Need-returns-2
-returns-2 c = c .blank-behind .ensures ∙ end-rest (c .before .before .before .before .before .args .line .now) (sym (c .before .before .begins .ensures) ∙ not-false _ (c .before .if1 .left))
+returns-2 c =
+    let args = c .before .before .before .before .before .args in
+    let begins = c .before .before .begins in
+    c .blank-behind .ensures ∙ end-rest (args .line .now) (sym (begins .ensures) ∙ not-false _ (c .before .if1 .left))
 
 pub is-end-line-spec : {M : Type 1} → statement M
 is-end-line-spec = tie.close (tie.spec begins-requires returns blank-behind-requires returns-2)

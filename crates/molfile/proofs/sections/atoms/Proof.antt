@@ -10,11 +10,6 @@ use Rattle.molfile.proofs.SectionLaws.{never, kindOn, kinds-next}
 use borrow.Author.Needs.{needs}
 use Rattle.molfile.proofs.sections.atoms.Statement.{statement}
 use Rattle.molfile.proofs.sections.atoms.Tie as tie
-use Rattle.molfile.proofs.sections.atoms.Reads as reads
-use Rattle.molfile.proofs.sections.atoms.Lts as lts
-use Rattle.molfile.proofs.forms.is_atom_line.Reads as is-atom-line-reads
-use Rattle.molfile.proofs.forms.kind_in.Reads as kind-in-reads
-use Rattle.molfile.proofs.line.line_at.Reads as line-at-reads
 
 abbrev Inv-loop : tie.InvT-loop
 Inv-loop file from atoms kinds₀ n at₀ k₀ kinds at k =
@@ -24,10 +19,22 @@ abbrev μ-loop : tie.MeasureT-loop
 μ-loop file from atoms kinds₀ n at₀ k₀ kinds at k = atoms - k
 
 loop-holds : tie.Need-loop-holds Inv-loop μ-loop
-loop-holds c = (omega arith, onward-start isAtomLine (c .before .args .file .now) _ _, refl, λ e. kept-start kindOn (c .before .args .file .now) (c .before .args .from) (c .before .args .atoms))
+loop-holds c = (
+  omega arith,
+  onward-start isAtomLine (c .before .args .file .now) _ _,
+  refl,
+  λ e. kept-start kindOn (c .before .args .file .now)
+      (c .before .args .from) (c .before .args .atoms),
+)
 
 returns : tie.Need-returns Inv-loop μ-loop
-returns c = (onward-missing isAtomLine (c .before .before .before .before .args .file .now) _ _ _ _ (c .before .before .loop .inv .1) (c .before .loop-test .taken) (c .if1 .taken), record { kept = c .before .before .loop .inv .2; are = λ l e. never e })
+returns c =
+    let args = c .before .before .before .before .args in
+    let loop = c .before .before .loop in (
+      onward-missing isAtomLine (args .file .now) _ _ _ _ (loop .inv .1) (c .before .loop-test .taken)
+          (c .if1 .taken),
+      record { kept = loop .inv .2; are = λ l e. never e },
+    )
 
 line-at-requires : tie.Need-line-at-requires Inv-loop μ-loop
 line-at-requires c κs = search needs
@@ -46,9 +53,14 @@ is-atom-line-requires c κs = search needs
 
 returns-2 : tie.Need-returns-2 Inv-loop μ-loop
 returns-2 c =
-    let e = c .before .before .before .line-at .ensures in (
-      onward-broken isAtomLine (c .before .before .before .before .before .before .before .before .args .file .now) _ _ _ _ (c .before .before .before .before .before .before .loop .inv .1) (c .before .before .before .before .before .loop-test .taken) _ e (sym (c .before .is-atom-line .ensures ∙ ap isAtomLine (e .bytes)) ∙ not-true _ (c .if2 .taken)),
-      record { kept = c .before .before .before .before .before .before .loop .inv .2; are = λ l e. never e },
+    let args = c .before .before .before .before .before .before .before .before .args in
+    let loop = c .before .before .before .before .before .before .loop in
+    let loop-test = c .before .before .before .before .before .loop-test in
+    let line-at = c .before .before .before .line-at in
+    let e = line-at .ensures in (
+      onward-broken isAtomLine (args .file .now) _ _ _ _ (loop .inv .1) (loop-test .taken) _ e
+          (sym (c .before .is-atom-line .ensures ∙ ap isAtomLine (e .bytes)) ∙ not-true _ (c .if2 .taken)),
+      record { kept = loop .inv .2; are = λ l e. never e },
     )
 
 kind-in-requires : tie.Need-kind-in-requires Inv-loop μ-loop
@@ -65,20 +77,33 @@ loop-less c = search needs
 
 loop-again : tie.Need-loop-again Inv-loop μ-loop
 loop-again c =
-    let e = c .before .before .before .before .line-at .ensures in
-    let L = c .before .before .before .before .before .before .before .loop in (
-      omega (arith, c .before .before .before .before .before .before .loop-test .taken),
-      onward-next isAtomLine (c .before .before .before .before .before .before .before .before .before .args .file .now) _ _ _ _ (L .inv .1) (c .before .before .before .before .before .before .loop-test .taken) _ e (sym (c .before .before .is-atom-line .ensures ∙ ap isAtomLine (e .bytes)) ∙ not-false _ (c .before .if2 .left)),
+    let pre = c .before .before .before .before .before .before .before .before .before .pre in
+    let args = c .before .before .before .before .before .before .before .before .before .args in
+    let loop = c .before .before .before .before .before .before .before .loop in
+    let loop-test = c .before .before .before .before .before .before .loop-test in
+    let line-at = c .before .before .before .before .line-at in
+    let is-atom-line = c .before .before .is-atom-line in
+    let e = line-at .ensures in
+    let L = loop in (
+      omega (arith, loop-test .taken),
+      onward-next isAtomLine (args .file .now) _ _ _ _ (L .inv .1) (loop-test .taken) _ e
+          (sym (is-atom-line .ensures ∙ ap isAtomLine (e .bytes)) ∙ not-false _ (c .before .if2 .left)),
       length-set (L .kinds) (L .k) _ ∙ L .inv .2,
-      λ l. kinds-next (c .before .before .before .before .before .before .before .before .before .args .file .now) (c .before .before .before .before .before .before .before .before .before .args .from) (c .before .before .before .before .before .before .before .before .before .args .atoms) (L .k) (L .at) _ (c .before .before .before .before .before .before .loop-test .taken) e (L .kinds) _ (omega (arith, l, L .inv .2, c .before .before .before .before .before .before .before .before .before .pre, c .before .before .before .before .before .before .loop-test .taken)) (c .kind-in .ensures ∙ ap kindIn (e .bytes)) (L .inv .3 l),
+      λ l. kinds-next (args .file .now) (args .from) (args .atoms) (L .k) (L .at) _ (loop-test .taken) e (L .kinds) _
+          (omega (arith, l, L .inv .2, pre, loop-test .taken)) (c .kind-in .ensures ∙ ap kindIn (e .bytes)) (L .inv .3 l),
     )
 
 returns-3 : tie.Need-returns-3 Inv-loop μ-loop
 returns-3 c =
+    let args = c .before .before .before .args in
     let L = c .before .loop in
-    let n : L .k ≡ c .before .before .before .args .atoms = omega (arith, L .inv .0, c .loop-test .left) in (
-      onward-end isAtomLine (c .before .before .before .args .file .now) _ _ _ _ (L .inv .1) (c .loop-test .left),
-      record { kept = L .inv .2; are = λ l e. ap (λ (j : ℕ). take j (L .kinds)) (sym n) ∙ kept-end kindOn (c .before .before .before .args .file .now) (c .before .before .before .args .from) (c .before .before .before .args .atoms) (L .k) (L .at) (take (L .k) (L .kinds)) (c .loop-test .left) (L .inv .3 l) },
+    let n : L .k ≡ args .atoms = omega (arith, L .inv .0, c .loop-test .left) in (
+      onward-end isAtomLine (args .file .now) _ _ _ _ (L .inv .1) (c .loop-test .left),
+      record {
+        kept = L .inv .2;
+        are = λ l e. ap (λ (j : ℕ). take j (L .kinds)) (sym n) ∙ kept-end kindOn (args .file .now) (args .from) (args .atoms) (L .k)
+            (L .at) (take (L .k) (L .kinds)) (c .loop-test .left) (L .inv .3 l);
+      },
     )
 
 pub atoms-spec : {M : Type 1} → statement M

@@ -8,19 +8,14 @@ use Rattle.molfile.proofs.SectionLaws.{counts-missing, counts-wrong, co
 use borrow.Author.Needs.{needs}
 use Rattle.molfile.proofs.sections.counts.Statement.{statement}
 use Rattle.molfile.proofs.sections.counts.Tie as tie
-use Rattle.molfile.proofs.sections.counts.Reads as reads
-use Rattle.molfile.proofs.sections.counts.Lts as lts
-use Rattle.molfile.proofs.field.number_at.Reads as number-at-reads
-use Rattle.molfile.proofs.forms.is_counts_line.Reads as is-counts-line-reads
-use Rattle.molfile.proofs.line.line_at.Reads as line-at-reads
-use Rattle.molfile.proofs.properties.wide.Reads as wide-reads
-use Rattle.molfile.proofs.sections.uncounted.Reads as uncounted-reads
 
 uncounted-requires : tie.Need-uncounted-requires
 uncounted-requires c κs = search needs
 
 returns : tie.Need-returns
-returns c = subst (IsCounted (c .before .before .before .args .file .now) (c .before .before .before .args .at)) (sym (c .uncounted .ensures)) (counts-missing _ _ (c .before .if1 .taken))
+returns c =
+    let args = c .before .before .before .args in
+    subst (IsCounted (args .file .now) (args .at)) (sym (c .uncounted .ensures)) (counts-missing _ _ (c .before .if1 .taken))
 
 line-at-requires : tie.Need-line-at-requires
 line-at-requires c κs = search needs
@@ -41,7 +36,12 @@ uncounted-requires-2 : tie.Need-uncounted-requires-2
 uncounted-requires-2 c κs = search needs
 
 returns-2 : tie.Need-returns-2
-returns-2 c = subst (IsCounted (c .before .before .before .before .before .before .before .args .file .now) (c .before .before .before .before .before .before .before .args .at)) (sym (c .uncounted2 .ensures)) (counts-wrong _ _ _ (c .before .before .before .before .line-at .ensures) (sym (c .before .before .is-counts-line .ensures ∙ ap isCountsLine (c .before .before .before .before .line-at .ensures .bytes)) ∙ not-true _ (c .before .if2 .taken)))
+returns-2 c =
+    let args = c .before .before .before .before .before .before .before .args in
+    let line-at = c .before .before .before .before .line-at in
+    let is-counts-line = c .before .before .is-counts-line in
+    subst (IsCounted (args .file .now) (args .at)) (sym (c .uncounted2 .ensures))
+    (counts-wrong _ _ _ (line-at .ensures) (sym (is-counts-line .ensures ∙ ap isCountsLine (line-at .ensures .bytes)) ∙ not-true _ (c .before .if2 .taken)))
 
 number-at-requires : tie.Need-number-at-requires
 number-at-requires c κs = search needs
@@ -57,9 +57,14 @@ wide-requires-2 c κs = search needs
 
 returns-3 : tie.Need-returns-3
 returns-3 c =
-    let e = c .before .before .before .before .before .before .before .line-at .ensures in
-    counts-right _ _ _ e _ _ (sym (c .before .before .before .before .before .is-counts-line .ensures ∙ ap isCountsLine (e .bytes)) ∙ not-false _ (c .before .before .before .before .if2 .left))
-    (c .before .before .wide .ensures ∙ c .before .before .before .number-at .ensures .is ∙ ap (numberAt 0) (e .bytes)) (c .wide2 .ensures ∙ c .before .number-at2 .ensures .is ∙ ap (numberAt 3) (e .bytes))
+    let line-at = c .before .before .before .before .before .before .before .line-at in
+    let is-counts-line = c .before .before .before .before .before .is-counts-line in
+    let if2 = c .before .before .before .before .if2 in
+    let number-at = c .before .before .before .number-at in
+    let wide = c .before .before .wide in
+    let e = line-at .ensures in
+    counts-right _ _ _ e _ _ (sym (is-counts-line .ensures ∙ ap isCountsLine (e .bytes)) ∙ not-false _ (if2 .left))
+    (wide .ensures ∙ number-at .ensures .is ∙ ap (numberAt 0) (e .bytes)) (c .wide2 .ensures ∙ c .before .number-at2 .ensures .is ∙ ap (numberAt 3) (e .bytes))
 
 pub counts-spec : {M : Type 1} → statement M
 counts-spec =

@@ -6,9 +6,6 @@ use Rattle.molfile.proofs.PassingLaws.{Onward, onward-start, onward-mis
 use borrow.Author.Needs.{needs}
 use Rattle.molfile.proofs.sections.header.Statement.{statement}
 use Rattle.molfile.proofs.sections.header.Tie as tie
-use Rattle.molfile.proofs.sections.header.Reads as reads
-use Rattle.molfile.proofs.sections.header.Lts as lts
-use Rattle.molfile.proofs.line.line_at.Reads as line-at-reads
 
 abbrev Inv-loop : tie.InvT-loop
 Inv-loop file n at₀ k₀ at k = Onward anyLine file 0 3 k at
@@ -20,7 +17,10 @@ loop-holds : tie.Need-loop-holds Inv-loop μ-loop
 loop-holds c = onward-start anyLine (c .before .args .file .now) 0 3
 
 returns : tie.Need-returns Inv-loop μ-loop
-returns c = onward-missing anyLine (c .before .before .before .before .args .file .now) 0 3 _ _ (c .before .before .loop .inv) (c .before .loop-test .taken) (c .if1 .taken)
+returns c =
+    let args = c .before .before .before .before .args in
+    let loop = c .before .before .loop in
+    onward-missing anyLine (args .file .now) 0 3 _ _ (loop .inv) (c .before .loop-test .taken) (c .if1 .taken)
 
 line-at-requires : tie.Need-line-at-requires Inv-loop μ-loop
 line-at-requires c κs = search needs
@@ -32,7 +32,11 @@ loop-less : tie.Need-loop-less Inv-loop μ-loop
 loop-less c = search needs
 
 loop-again : tie.Need-loop-again Inv-loop μ-loop
-loop-again c = onward-next anyLine (c .before .before .before .before .before .args .file .now) 0 3 _ _ (c .before .before .before .loop .inv) (c .before .before .loop-test .taken) _ (c .line-at .ensures) refl
+loop-again c =
+    let args = c .before .before .before .before .before .args in
+    let loop = c .before .before .before .loop in
+    let loop-test = c .before .before .loop-test in
+    onward-next anyLine (args .file .now) 0 3 _ _ (loop .inv) (loop-test .taken) _ (c .line-at .ensures) refl
 
 returns-2 : tie.Need-returns-2 Inv-loop μ-loop
 returns-2 c = onward-end anyLine (c .before .before .before .args .file .now) 0 3 _ _ (c .before .loop .inv) (c .loop-test .left)

@@ -11,11 +11,6 @@ use Rattle.molfile.proofs.SectionLaws.{end-here, property-wrong, proper
 use borrow.Author.Needs.{needs}
 use Rattle.molfile.proofs.sections.properties.Statement.{statement}
 use Rattle.molfile.proofs.sections.properties.Tie as tie
-use Rattle.molfile.proofs.sections.properties.Reads as reads
-use Rattle.molfile.proofs.sections.properties.Lts as lts
-use Rattle.molfile.proofs.line.line_at.Reads as line-at-reads
-use Rattle.molfile.proofs.properties.is_end_line.Reads as is-end-line-reads
-use Rattle.molfile.proofs.properties.is_property_line.Reads as is-property-line-reads
 
 abbrev Inv-loop : tie.InvT-loop
 Inv-loop file from atoms n at₀ at = properties (length file) atoms (linesAt file at) ≡ properties (length file) atoms (linesAt file from)
@@ -43,27 +38,46 @@ is-end-line-requires c κs = search needs
 
 returns : tie.Need-returns Inv-loop μ-loop
 returns c =
-    let e = c .before .before .before .line-at .ensures in
-    sym (c .before .before .before .before .before .loop .inv) ∙ end-here _ _ _ e _ (sym (c .before .is-end-line .ensures ∙ ap isEndLine (e .bytes)) ∙ c .if1 .taken)
+    let loop = c .before .before .before .before .before .loop in
+    let line-at = c .before .before .before .line-at in
+    let e = line-at .ensures in
+    sym (loop .inv) ∙ end-here _ _ _ e _ (sym (c .before .is-end-line .ensures ∙ ap isEndLine (e .bytes)) ∙ c .if1 .taken)
 
 is-property-line-requires : tie.Need-is-property-line-requires Inv-loop μ-loop
 is-property-line-requires c κs = search needs
 
 returns-2 : tie.Need-returns-2 Inv-loop μ-loop
 returns-2 c =
-    let e = c .before .before .before .before .before .line-at .ensures in
-    sym (c .before .before .before .before .before .before .before .loop .inv) ∙ property-wrong _ _ _ e _ (sym (c .before .before .before .is-end-line .ensures ∙ ap isEndLine (e .bytes)) ∙ c .before .before .if1 .left) (sym (c .before .is-property-line .ensures ∙ ap (isPropertyLine (c .before .before .before .before .before .before .before .before .before .args .atoms)) (e .bytes)) ∙ not-true _ (c .if2 .taken))
+    let args = c .before .before .before .before .before .before .before .before .before .args in
+    let loop = c .before .before .before .before .before .before .before .loop in
+    let line-at = c .before .before .before .before .before .line-at in
+    let is-end-line = c .before .before .before .is-end-line in
+    let if1 = c .before .before .if1 in
+    let e = line-at .ensures in
+    sym (loop .inv) ∙ property-wrong _ _ _ e _ (sym (is-end-line .ensures ∙ ap isEndLine (e .bytes)) ∙ if1 .left)
+    (sym (c .before .is-property-line .ensures ∙ ap (isPropertyLine (args .atoms)) (e .bytes)) ∙ not-true _ (c .if2 .taken))
 
 loop-less : tie.Need-loop-less Inv-loop μ-loop
-loop-less c = omega (arith, c .before .before .before .before .before .line-at .ensures .ahead, c .before .before .before .before .before .before .loop-test .taken)
+loop-less c =
+    let loop-test = c .before .before .before .before .before .before .loop-test in
+    let line-at = c .before .before .before .before .before .line-at in
+    omega (arith, line-at .ensures .ahead, loop-test .taken)
 
 loop-again : tie.Need-loop-again Inv-loop μ-loop
 loop-again c =
-    let e = c .before .before .before .before .before .line-at .ensures in
-    sym (property-next (c .before .before .before .before .before .before .before .before .before .args .file .now) _ _ e (c .before .before .before .before .before .before .before .before .before .args .atoms) (sym (c .before .before .before .is-end-line .ensures ∙ ap isEndLine (e .bytes)) ∙ c .before .before .if1 .left) (sym (c .before .is-property-line .ensures ∙ ap (isPropertyLine (c .before .before .before .before .before .before .before .before .before .args .atoms)) (e .bytes)) ∙ not-false _ (c .if2 .left))) ∙ c .before .before .before .before .before .before .before .loop .inv
+    let args = c .before .before .before .before .before .before .before .before .before .args in
+    let loop = c .before .before .before .before .before .before .before .loop in
+    let line-at = c .before .before .before .before .before .line-at in
+    let is-end-line = c .before .before .before .is-end-line in
+    let if1 = c .before .before .if1 in
+    let e = line-at .ensures in
+    sym (property-next (args .file .now) _ _ e (args .atoms) (sym (is-end-line .ensures ∙ ap isEndLine (e .bytes)) ∙ if1 .left)
+    (sym (c .before .is-property-line .ensures ∙ ap (isPropertyLine (args .atoms)) (e .bytes)) ∙ not-false _ (c .if2 .left))) ∙ loop .inv
 
 returns-3 : tie.Need-returns-3 Inv-loop μ-loop
-returns-3 c = sym (c .before .loop .inv) ∙ end-missing (c .before .before .before .args .file .now) (c .before .loop .at) (c .before .before .before .args .atoms) (c .loop-test .left)
+returns-3 c =
+    let args = c .before .before .before .args in
+    sym (c .before .loop .inv) ∙ end-missing (args .file .now) (c .before .loop .at) (args .atoms) (c .loop-test .left)
 
 pub properties-spec : {M : Type 1} → statement M
 properties-spec =
