@@ -6,3 +6,4 @@ pub mod PropertyLaws
 pub mod PassingLaws
 pub mod SectionLaws
 pub mod FilingLaws
+pub mod ReadingLaws

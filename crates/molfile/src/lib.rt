@@ -1,8 +1,11 @@
-// Reading a molfile: its lines, one by one, into the arrays of its drawing.
+// Reading a molfile: its lines, one by one, into the arrays of its drawing, and that into a table.
+ghost use mathlib.Core.Path.{_≡_};
 ghost use Rattle.molfile.specs.Filing.{IsFiled};
+ghost use Rattle.molfile.specs.Reading.{IsRead};
 use crate::outcome::Filed;
 use crate::outcome::broken_at;
 use drawing::Limits;
+use table::Table;
 
 mod bonds;
 mod field;
@@ -12,8 +15,51 @@ mod outcome;
 mod properties;
 mod sections;
 
+const MOST_BYTES: usize = 65536;
+
+// A refusal with its place, or the table of the molecule that the file draws.
+pub struct MolfileRead {
+    pub refusal: u8,
+    pub place: usize,
+    pub table: Table,
+}
+
+fn refused(refusal: u8, place: usize) -> MolfileRead
+    ensures { λ r. ⌜ (r .refusal ≡ refusal) × (r .place ≡ place) ⌝ }
+{
+    MolfileRead {
+        refusal,
+        place,
+        table: Table::empty(),
+    }
+}
+
+// The arrays of the drawing live only here: what goes on is the table.
+pub fn read(file: &[u8]) -> MolfileRead
+    ensures { λ r. ⌜ IsRead (now (file .entry)) r ⌝ }
+{
+    if MOST_BYTES < file.len() {
+        return refused(4, 0);
+    }
+    let mut kinds = [0u8; Limits::ATOMS];
+    let mut one = [0u16; Limits::BONDS];
+    let mut two = [0u16; Limits::BONDS];
+    let mut codes = [0u16; Limits::BONDS];
+    let f = filed(file, &mut kinds, &mut one, &mut two, &mut codes);
+    if f.broken {
+        return refused(11, f.place);
+    }
+    let folded = drawing::judged(&kinds, &one, &two, &codes, f.atoms, f.bonds);
+    let table = folded.table;
+    MolfileRead {
+        refusal: folded.refusal,
+        place: 0,
+        table,
+    }
+}
+
 // The verdict on a file, and what a sound one draws. What the arrays hold of a broken one is of no use.
-pub fn filed(
+fn filed(
     file: &[u8],
     kinds: &mut [u8; Limits::ATOMS],
     one: &mut [u16; Limits::BONDS],
