@@ -7,6 +7,8 @@ use Rattle.rules.specs.Answers.{Answer, atExit}
 use Rattle.rules.specs.Contracts.{Result, Allowed}
 use Rattle.rules.specs.Promises.{KeptBy}
 use Rattle.rules.specs.Runs.{NameRun, CardRun, CanonicalRun, MarksRun}
+use Rattle.ctfile.specs.Molfiles.{MolfileRun}
+use Rattle.ctfile.proofs.Kept as ctfile
 use Rattle.rules.proofs.Settled.{kept}
 
 run-fits : (a : Answer) (lent : List ℕ) (r : Result) → KeptBy a lent → Allowed a lent r → r .length ≤ length lent
@@ -22,6 +24,9 @@ module _ (card : List ℕ) (allowance : ℕ) (lent : List ℕ) (r : Result) wher
 
   pub marks-fit : MarksRun card allowance lent r → r .length ≤ length lent
   marks-fit = run-fits _ lent r (kept .marks card allowance lent)
+
+pub molfile-fits : (file : List ℕ) (allowance : ℕ) (lent : List ℕ) (r : Result) → MolfileRun file allowance lent r → r .length ≤ length lent
+molfile-fits file allowance lent r = run-fits _ lent r (ctfile.kept file allowance lent)
 
 pub card-fits : (text lent : List ℕ) (r : Result) → CardRun text lent r → r .length ≤ length lent
 card-fits text lent r = run-fits _ lent r (kept .card text lent)
