@@ -10,17 +10,18 @@ use Rattle.ctfile.specs.Lines as rules
 use Rattle.ctfile.specs.Lines.{lineBytes, linesFrom}
 use Rattle.molfile.specs.declared.line.Line.{Line}
 
--- where the first LF stands
+-- "A line ends with LF": where the first one stands
 abbrev pub lineFeed : List ℕ → ℕ
 lineFeed l = find (λ b. eqb b 10) l
 
--- the lines from an offset on, at which one begins
+-- "Offsets count every byte": the lines from an offset on, at which one begins
 abbrev pub linesAt : List ℕ → ℕ → List rules.Line
 linesAt s at = linesFrom (drop at s) true at
 
 abbrev pub lineOf : List ℕ → ℕ → rules.Line
 lineOf s at = record { offset = at; bytes = lineBytes (drop at s) }
 
+-- a line's bytes without its end, and the offset at which the next begins
 pub record IsLine (s : List ℕ) (at : ℕ) (r : Line) : Type 0 where
   pub behind : at ≤ r .end
   pub cut : r .end ≤ r .next

@@ -9,7 +9,8 @@ use Rattle.drawing.specs.View.{drawingIn}
 use Rattle.molfile.specs.declared.outcome.Filed.{Filed}
 use Rattle.molfile.specs.Passing.{Longs}
 
--- The arrays at entry and exit, and the answer. The lengths of the arrays are those of their types.
+-- "11 for a broken or unsupported line, with the line's byte offset (the file's length if missing) as place", or the drawing in its arrays.
+-- These are given at entry and exit; the premises on their lengths say what their types say.
 pub record IsFiled (s kinds₀ one₀ two₀ codes₀ kinds one two codes : List ℕ) (r : Filed) : Type 0 where
   pub stopped : r .broken ≡ true → verdict s ≡ broken (r .place)
   pub passed : r .broken ≡ false → verdict s ≡ sound

@@ -1,4 +1,4 @@
--- A number of a field.
+-- A number of a field: 1,000 stands for none.
 use Prim.Native.Nat.{ℕ, _≤_}
 use mathlib.Core.Path.{_≡_}
 

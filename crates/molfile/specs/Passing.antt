@@ -18,12 +18,14 @@ use Rattle.molfile.specs.Cutting.{linesAt}
 abbrev pub anyLine : Form
 anyLine l = true
 
--- Lines of these forms judged from an offset on, whatever follows them: the place of a faulty line, or of the line that follows.
+-- "Lines are judged in order, each in the form due at its place": lines of these forms from an offset on, whatever follows them. What is
+-- given is the place of a faulty line, or of the line that follows.
 pub record Passes (fs : List Form) (s : List ℕ) (at : ℕ) (r : Passage) : Type 0 where
   pub judged : (gs : List Form) (next : List rules.Line → Verdict)
       → judgedBy (fs ++ gs) (length s) next (linesAt s at) ≡ cond (r .broken) (broken (r .place)) (judgedBy gs (length s) next (linesAt s (r .place)))
   pub behind : r .broken ≡ false → drop (length fs) (linesAt s at) ≡ linesAt s (r .place)
 
+-- "counts line 1-3, 4-6, 34-39": three columns for each of two numbers
 pub record IsCounted (s : List ℕ) (at : ℕ) (r : Counted) : Type 0 where
   pub passes : Passes (isCountsLine ∷ []) s at (record { broken = r .broken; place = r .place })
   pub atoms : r .broken ≡ false → r .atoms ≡ atomCountIn (getD (linesAt s at) 0 noLine .bytes)
@@ -50,10 +52,10 @@ pub record BondsIn (one₀ two₀ codes₀ one two codes s : List ℕ) (at n : �
   pub kept : (length one ≡ length one₀) × (length two ≡ length two₀) × (length codes ≡ length codes₀)
   pub are : Longs one₀ two₀ codes₀ → r .broken ≡ false → each n (bondOf one two codes) ≡ bondsOf (take n (linesAt s at))
 
+-- "property lines to `M  END`, where reading ends"
 abbrev pub ending : Bool → ℕ → Verdict
 ending true place = broken place
 ending false place = sound
 
--- the lines behind the bonds judged, up to the end line
 abbrev pub Ends : (s : List ℕ) (at atoms : ℕ) → Passage → Type 0
 Ends s at atoms r = properties (length s) atoms (linesAt s at) ≡ ending (r .broken) (r .place)

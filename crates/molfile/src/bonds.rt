@@ -20,7 +20,7 @@ fn from_one(a: u16) -> u16
 }
 
 // Whether a line so long, with these three numbers, is a bond line.
-fn are_columns(length: usize, a: u16, b: u16, c: u16) -> bool
+fn is_bond(length: usize, a: u16, b: u16, c: u16) -> bool
     ensures { λ r. ⌜ r ≡ (leb 9 length && ltb a 1000 && ltb b 1000 && ltb c 1000) ⌝ }
 {
     if length < 9 {
@@ -55,5 +55,5 @@ pub fn put_bond(
     one[k] = from_one(a);
     two[k] = from_one(b);
     codes[k] = c;
-    are_columns(line.len(), a, b, c)
+    is_bond(line.len(), a, b, c)
 }

@@ -14,6 +14,12 @@ pub const BLANK: u8 = 32;
 // What stands for none: three columns hold no more than 999.
 pub const NO_NUMBER: u16 = 1000;
 
+pub fn wide(x: u16) -> usize
+    ensures { λ r. ⌜ r ≡ x ⌝ }
+{
+    x as usize
+}
+
 // The byte in the column behind the first k. What is cut off is blank.
 pub fn column(line: &[u8], k: usize) -> u8
     ensures { λ r. ⌜ r ≡ getD (now (line .entry)) k 32 ⌝ }

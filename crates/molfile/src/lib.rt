@@ -11,7 +11,7 @@ mod bonds;
 mod field;
 mod forms;
 mod line;
-mod outcome;
+pub mod outcome;
 mod properties;
 mod sections;
 
@@ -66,7 +66,8 @@ fn filed(
     two: &mut [u16; Limits::BONDS],
     codes: &mut [u16; Limits::BONDS],
 ) -> Filed
-    ensures { λ r. ⌜ IsFiled (now (file .entry)) (now (kinds .entry)) (now (one .entry)) (now (two .entry)) (now (codes .entry)) (now (kinds .exit)) (now (one .exit)) (now (two .exit)) (now (codes .exit)) r ⌝ }
+    ensures { λ r. ⌜ IsFiled (now (file .entry)) (now (kinds .entry)) (now (one .entry)) (now (two .entry)) (now (codes .entry))
+        (now (kinds .exit)) (now (one .exit)) (now (two .exit)) (now (codes .exit)) r ⌝ }
 {
     let header = sections::header(file);
     if header.broken {

@@ -12,13 +12,8 @@ use crate::field::BLANK;
 use crate::field::column;
 use crate::field::number_at;
 use crate::field::size_at;
+use crate::field::wide;
 use crate::forms::holds;
-
-pub fn wide(x: u16) -> usize
-    ensures { λ r. ⌜ r ≡ x ⌝ }
-{
-    x as usize
-}
 
 // Whether a line begins with a text, none of it cut off.
 fn begins(line: &[u8], text: &[u8; 6]) -> bool

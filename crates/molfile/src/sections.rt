@@ -7,6 +7,7 @@ ghost use Rattle.ctfile.specs.Forms.{isAtomLine, isBondLine};
 ghost use Rattle.molfile.specs.Passing.{anyLine, Passes, IsCounted, AtomsIn, BondsIn, Ends};
 use crate::bonds::put_bond;
 use crate::field::number_at;
+use crate::field::wide;
 use crate::forms::is_atom_line;
 use crate::forms::is_counts_line;
 use crate::forms::kind_in;
@@ -15,7 +16,6 @@ use crate::outcome::Counted;
 use crate::outcome::Passage;
 use crate::properties::is_end_line;
 use crate::properties::is_property_line;
-use crate::properties::wide;
 use drawing::Limits;
 
 const HEADER: usize = 3;

@@ -40,8 +40,8 @@ mul-codes c = search needs
 element-write-codes : tie.Need-element-write-codes
 element-write-codes c = search needs
 
-are-columns-requires : tie.Need-are-columns-requires
-are-columns-requires c κs = search needs
+is-bond-requires : tie.Need-is-bond-requires
+is-bond-requires c κs = search needs
 
 returns : tie.Need-returns
 returns c =
@@ -50,7 +50,7 @@ returns c =
     let number-at2 = c .before .before .before .before .number-at2 in
     let number-at3 = c .before .before .before .number-at3 in
     let from-one = c .before .before .from-one in (
-      c .are-columns .ensures ∙ bond-line (args .line .now) _ _ _ (number-at .ensures .is) (number-at2 .ensures .is) (number-at3 .ensures .is),
+      c .is-bond .ensures ∙ bond-line (args .line .now) _ _ _ (number-at .ensures .is) (number-at2 .ensures .is) (number-at3 .ensures .is),
       ap (λ (x : ℕ). set (args .one .now) (args .k) x) (bond-first (args .line .now) _ _ (from-one .ensures) (number-at .ensures .is)),
       ap (λ (x : ℕ). set (args .two .now) (args .k) x) (bond-second (args .line .now) _ _ (c .before .from-one2 .ensures) (number-at2 .ensures .is)),
       ap (λ (x : ℕ). set (args .codes .now) (args .k) x) (bond-third (args .line .now) _ (number-at3 .ensures .is)),
@@ -71,5 +71,5 @@ put-bond-spec =
     element-write-two
     mul-codes
     element-write-codes
-    are-columns-requires
+    is-bond-requires
     returns)

@@ -1,7 +1,7 @@
 -- The tests are those of the definition.
 use borrow.Author.Tests.{lt-ltb, le-ltb, le-leb, lt-leb}
-use Rattle.molfile.proofs.bonds.are_columns.Statement.{statement}
-use Rattle.molfile.proofs.bonds.are_columns.Tie as tie
+use Rattle.molfile.proofs.bonds.is_bond.Statement.{statement}
+use Rattle.molfile.proofs.bonds.is_bond.Tie as tie
 
 returns : tie.Need-returns
 returns c = simp (lt-leb _ _ (c .if1 .taken))
@@ -15,5 +15,5 @@ returns-3 c = simp (le-leb _ _ (c .before .before .if1 .left), lt-ltb _ _ (c .be
 returns-4 : tie.Need-returns-4
 returns-4 c = simp (le-leb _ _ (c .before .before .if1 .left), lt-ltb _ _ (c .before .if2 .left), lt-ltb _ _ (c .if3 .left))
 
-pub are-columns-spec : {M : Type 1} → statement M
-are-columns-spec = tie.close (tie.spec returns returns-2 returns-3 returns-4)
+pub is-bond-spec : {M : Type 1} → statement M
+is-bond-spec = tie.close (tie.spec returns returns-2 returns-3 returns-4)
