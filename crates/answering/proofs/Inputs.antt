@@ -10,9 +10,9 @@ use Rattle.lists.proofs.Booleans.{and-both}
 use Rattle.lines.specs.Hex.{isHex}
 use Rattle.answering.specs.Requests.{isDash, isInput}
 
-pub input-hex : (f : List ℕ) → isInput f ≡ true → isDash f ≡ false → (isHex f ≡ true) × (length f ≤ 16384)
+pub input-hex : (f : List ℕ) → isInput f ≡ true → isDash f ≡ false → (isHex f ≡ true) × (length f ≤ 131200)
 unfolding isInput
 input-hex f e d =
-    let both = and-both (ltb 0 (length f)) (leb (length f) 16384 && isHex f) (rw d at e) in
-    let more = and-both (leb (length f) 16384) (isHex f) (both .1) in
+    let both = and-both (ltb 0 (length f)) (leb (length f) 131200 && isHex f) (rw d at e) in
+    let more = and-both (leb (length f) 131200) (isHex f) (both .1) in
     (more .1, leb-true _ _ (more .0))

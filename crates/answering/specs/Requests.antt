@@ -10,18 +10,19 @@ use Rattle.lines.specs.Hex.{isHex, bytesOf}
 use Rattle.lines.specs.Numbers.{numberOf}
 use Rattle.lines.specs.declared.number.Number.{Number}
 use Rattle.lines.specs.declared.number.Number.the-variants.{Value, Nothing}
-use Rattle.answering.specs.declared.request.Op.the-variants.{Name, Read, Canon, Marks}
+use Rattle.answering.specs.declared.request.Op.the-variants.{Name, Read, Canon, Marks, Mol}
 use Rattle.answering.specs.declared.request.Word.{Word}
 use Rattle.answering.specs.declared.request.Word.the-variants.{Known, Unknown}
 use Rattle.answering.specs.declared.request.Request.{Request}
 use Rattle.answering.specs.declared.request.Request.the-variants.{Asks, Broken}
 
--- the four words
+-- the five words
 unfoldable pub wordOf : List ℕ → Word
 wordOf w =
     cond (sameBytes w (quoted.bytesOf "name")) (Known Name)
     (cond (sameBytes w (quoted.bytesOf "read")) (Known Read)
-    (cond (sameBytes w (quoted.bytesOf "canon")) (Known Canon) (cond (sameBytes w (quoted.bytesOf "marks")) (Known Marks) Unknown)))
+    (cond (sameBytes w (quoted.bytesOf "canon")) (Known Canon)
+    (cond (sameBytes w (quoted.bytesOf "marks")) (Known Marks) (cond (sameBytes w (quoted.bytesOf "mol")) (Known Mol) Unknown))))
 
 -- the field HEX
 abbrev pub inputField : List ℕ → List ℕ
@@ -30,9 +31,9 @@ inputField line = restOf (restOf (restOf line))
 abbrev pub isDash : List ℕ → Bool
 isDash f = sameBytes f (quoted.bytesOf "-")
 
--- -, or 1 to 8,192 bytes in hexadecimal
+-- -, or 1 to 65,600 bytes in hexadecimal, so that a molfile that is too long can be asked about
 unfoldable pub isInput : List ℕ → Bool
-isInput f = isDash f || (ltb 0 (length f) && (leb (length f) 16384 && isHex f))
+isInput f = isDash f || (ltb 0 (length f) && (leb (length f) 131200 && isHex f))
 
 unfoldable pub inputOf : List ℕ → List ℕ
 inputOf f = cond (isDash f) [] (bytesOf f)

@@ -5,16 +5,14 @@ ghost use Prim.Native.Nat.{_+_, _*_, _≤_};
 ghost use lib.ListN.{length};
 ghost use Rattle.rules.specs.Contracts.{Allowed};
 ghost use Rattle.scallopgrid.specs.Returned.{returned};
-ghost use Rattle.lines.specs.Written.{Prints};
-ghost use Rattle.answering.specs.Answers.{answerOf, shown, lineFor, answerLine};
+ghost use Rattle.lines.specs.Written.{fronted, Prints};
+ghost use Rattle.answering.specs.Answers.{answerOf, shown, lineFor, answerLine, bufferAfter};
 ghost use Rattle.answering.specs.Requests.{isInput, inputOf};
 use crate::request;
 use crate::request::Op;
 use crate::request::Request;
 use lines::output;
 use scallopgrid::Answer;
-
-const MOST_INPUT: usize = 8192;
 
 fn ask(op: Op, input: &[u8], allowance: u16, out: &mut [u8]) -> Answer
     ensures { λ r. ⌜ Allowed (answerOf op (now (input .entry)) allowance (length (now (out .entry)))) (now (out .entry)) (returned r (now (out .exit))) × (r .length ≤ length (now (out .entry))) ⌝ }
@@ -24,6 +22,7 @@ fn ask(op: Op, input: &[u8], allowance: u16, out: &mut [u8]) -> Answer
         Op::Read => scallopgrid::card_of_text(input, out),
         Op::Canon => scallopgrid::canonical_card(input, allowance, out),
         Op::Marks => scallopgrid::class_marks(input, allowance, out),
+        Op::Mol => scallopgrid::name_of_molfile(input, allowance, out),
     }
 }
 
@@ -37,18 +36,18 @@ fn put_answer(a: Answer, bytes: &[u8], out: &mut [u8]) -> usize
     output::put_newline(out, end)
 }
 
-fn input_buffer() -> [u8; MOST_INPUT]
-    ensures { λ r. ⌜ 8192 ≡ length r ⌝ }
+fn answer_request(
+    op: Op,
+    allowance: u16,
+    room: usize,
+    hex: &[u8],
+    input: &mut [u8],
+    printed: &mut [u8],
+) -> usize
+    requires { ⌜ (room ≤ 4096) × (isInput (now hex) ≡ true) × (65600 ≤ length (now input)) × (8278 ≤ length (now printed)) ⌝ }
+    ensures { λ r. ⌜ Prints (lineFor (Request.Asks op allowance room) (inputOf (now (hex .entry)))) (now (printed .entry)) (now (printed .exit)) r × (now (input .exit) ≡ fronted (inputOf (now (hex .entry))) (now (input .entry))) ⌝ }
 {
-    [0u8; MOST_INPUT]
-}
-
-fn answer_request(op: Op, allowance: u16, room: usize, hex: &[u8], printed: &mut [u8]) -> usize
-    requires { ⌜ (room ≤ 4096) × (isInput (now hex) ≡ true) × (8278 ≤ length (now printed)) ⌝ }
-    ensures { λ r. ⌜ Prints (lineFor (Request.Asks op allowance room) (inputOf (now (hex .entry)))) (now (printed .entry)) (now (printed .exit)) r ⌝ }
-{
-    let mut input = input_buffer();
-    let n = request::read_input(hex, &mut input);
+    let n = request::read_input(hex, input);
     let mut lent = io::buffer();
     let a = ask(op, &input[..n], allowance, &mut lent[..room]);
     let k = a.length;
@@ -56,9 +55,10 @@ fn answer_request(op: Op, allowance: u16, room: usize, hex: &[u8], printed: &mut
 }
 
 // The line that is printed for a line, at the start of a buffer; answers its length.
-pub fn answer(line: &[u8], printed: &mut [u8]) -> usize
-    requires { ⌜ 8278 ≤ length (now printed) ⌝ }
-    ensures { λ r. ⌜ Prints (answerLine (now (line .entry))) (now (printed .entry)) (now (printed .exit)) r ⌝ }
+// The input is read into a lent buffer, since one of its own would be zeroed for every line.
+pub fn answer(line: &[u8], input: &mut [u8], printed: &mut [u8]) -> usize
+    requires { ⌜ (65600 ≤ length (now input)) × (8278 ≤ length (now printed)) ⌝ }
+    ensures { λ r. ⌜ Prints (answerLine (now (line .entry))) (now (printed .entry)) (now (printed .exit)) r × (now (input .exit) ≡ bufferAfter (now (line .entry)) (now (input .entry))) ⌝ }
 {
     let Request::Asks {
         op,
@@ -68,5 +68,12 @@ pub fn answer(line: &[u8], printed: &mut [u8]) -> usize
     else {
         return bytes::copy(b"BADLINE\n", printed);
     };
-    answer_request(op, allowance, room, request::input_field(line), printed)
+    answer_request(
+        op,
+        allowance,
+        room,
+        request::input_field(line),
+        input,
+        printed,
+    )
 }

@@ -16,6 +16,7 @@ pub enum Op {
     Read,
     Canon,
     Marks,
+    Mol,
 }
 
 pub enum Word {
@@ -32,7 +33,7 @@ const MOST_ALLOWANCE: u32 = 65535;
 
 const MOST_ROOM: u32 = 4096;
 
-const MOST_DIGITS: usize = 16384;
+const MOST_DIGITS: usize = 131200;
 
 fn word_of(word: &[u8]) -> Word
     ensures { λ r. ⌜ r ≡ wordOf (now (word .entry)) ⌝ }
@@ -48,6 +49,9 @@ fn word_of(word: &[u8]) -> Word
     }
     if field::is_word(word, b"marks") {
         return Word::Known(Op::Marks);
+    }
+    if field::is_word(word, b"mol") {
+        return Word::Known(Op::Mol);
     }
     Word::Unknown
 }
@@ -75,7 +79,7 @@ fn is_input(hex: &[u8]) -> bool
 
 // The bytes of a sound input field, at the start of a buffer; answers how many there are.
 pub fn read_input(hex: &[u8], out: &mut [u8]) -> usize
-    requires { ⌜ (isInput (now hex) ≡ true) × (8192 ≤ length (now out)) ⌝ }
+    requires { ⌜ (isInput (now hex) ≡ true) × (65600 ≤ length (now out)) ⌝ }
     ensures { λ r. ⌜ Prints (inputOf (now (hex .entry))) (now (out .entry)) (now (out .exit)) r ⌝ }
 {
     if field::is_word(hex, b"-") {

@@ -11,11 +11,11 @@ use Rattle.answering.proofs.run.Statement.{statement}
 use Rattle.answering.proofs.run.Tie as tie
 
 abbrev Inv-loop : tie.InvT-loop
-Inv-loop fd buffer₀ line₀ printed₀ unread₀ counter₀ buffer line printed unread counter =
-    (length buffer ≡ 65536) × (length line ≡ 16402) × (length printed ≡ 8278) × Inside unread buffer × (counter ≤ 9223372036854775808)
+Inv-loop fd buffer₀ line₀ input₀ printed₀ unread₀ counter₀ buffer line input printed unread counter =
+    (length buffer ≡ 65536) × (length line ≡ 131218) × (length input ≡ 65600) × (length printed ≡ 8278) × Inside unread buffer × (counter ≤ 9223372036854775808)
 
 abbrev μ-loop : tie.MeasureT-loop
-μ-loop fd buffer₀ line₀ printed₀ unread₀ counter₀ buffer line printed unread counter = 9223372036854775808 - counter
+μ-loop fd buffer₀ line₀ input₀ printed₀ unread₀ counter₀ buffer line input printed unread counter = 9223372036854775808 - counter
 
 large-buffer-requires : tie.Need-large-buffer-requires Inv-loop μ-loop
 large-buffer-requires c κs = search needs
@@ -24,7 +24,7 @@ nothing-requires : tie.Need-nothing-requires Inv-loop μ-loop
 nothing-requires c κs = search needs
 
 loop-holds : tie.Need-loop-holds Inv-loop μ-loop
-loop-holds c = (omega (arith, c .before .large-buffer .ensures), search needs, search needs, rw (c .nothing .ensures) (record { low = omega arith; high = omega arith }), omega arith)
+loop-holds c = (omega (arith, c .before .large-buffer .ensures), search needs, search needs, search needs, rw (c .nothing .ensures) (record { low = omega arith; high = omega arith }), omega arith)
 
 slice-aggregate-next-line : tie.Need-slice-aggregate-next-line Inv-loop μ-loop
 slice-aggregate-next-line c = search needs
@@ -47,14 +47,17 @@ slice-aggregate-answer c = sym (length-take-le _ _ (c .before .before .before .b
 slice-aggregate-answer-2 : tie.Need-slice-aggregate-answer-2 Inv-loop μ-loop
 slice-aggregate-answer-2 c = search needs
 
+slice-aggregate-answer-3 : tie.Need-slice-aggregate-answer-3 Inv-loop μ-loop
+slice-aggregate-answer-3 c = search needs
+
 answer-requires : tie.Need-answer-requires Inv-loop μ-loop
 answer-requires c κs = search needs
 
 array-share-prefix-printed : tie.Need-array-share-prefix-printed Inv-loop μ-loop
-array-share-prefix-printed c = prints-fits _ _ _ _ (c .before .answer .ensures)
+array-share-prefix-printed c = prints-fits _ _ _ _ (c .before .before .answer .ensures .0)
 
 slice-aggregate-write-all : tie.Need-slice-aggregate-write-all Inv-loop μ-loop
-slice-aggregate-write-all c = sym (length-take-le _ _ (prints-fits _ _ _ _ (c .before .before .answer .ensures)))
+slice-aggregate-write-all c = sym (length-take-le _ _ (prints-fits _ _ _ _ (c .before .before .before .answer .ensures .0)))
 
 write-all-requires : tie.Need-write-all-requires Inv-loop μ-loop
 write-all-requires c κs = search needs
@@ -87,6 +90,7 @@ run-spec =
     array-share-prefix-line
     slice-aggregate-answer
     slice-aggregate-answer-2
+    slice-aggregate-answer-3
     answer-requires
     array-share-prefix-printed
     slice-aggregate-write-all

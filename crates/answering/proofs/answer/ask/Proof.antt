@@ -1,5 +1,5 @@
 use borrow.Author.Needs.{needs}
-use Rattle.scallopgrid.proofs.Fits.{name-fits, card-fits, canonical-fits, marks-fit}
+use Rattle.scallopgrid.proofs.Fits.{name-fits, card-fits, canonical-fits, marks-fit, molfile-fits}
 use Rattle.answering.proofs.answer.ask.Statement.{statement}
 use Rattle.answering.proofs.answer.ask.Tie as tie
 
@@ -27,6 +27,12 @@ enum-told-4 c = search needs
 class-marks-requires : tie.Need-class-marks-requires
 class-marks-requires c κs = search needs
 
+enum-told-5 : tie.Need-enum-told-5
+enum-told-5 c = search needs
+
+name-of-molfile-requires : tie.Need-name-of-molfile-requires
+name-of-molfile-requires c κs = search needs
+
 same-length : tie.Need-same-length
 same-length c = search needs
 
@@ -51,6 +57,12 @@ same-length-4 c = search needs
 returns-4 : tie.Need-returns-4
 returns-4 c = (rw (c .before .before .before .before .enum-told4 .given .1) (c .before .before .class-marks .ensures), marks-fit _ _ _ _ (c .before .before .class-marks .ensures))
 
+same-length-5 : tie.Need-same-length-5
+same-length-5 c = search needs
+
+returns-5 : tie.Need-returns-5
+returns-5 c = (rw (c .before .before .before .before .enum-told5 .given .1) (c .before .before .name-of-molfile .ensures), molfile-fits _ _ _ _ (c .before .before .name-of-molfile .ensures))
+
 pub ask-spec : {M : Type 1} → statement M
 ask-spec =
     tie.close
@@ -63,6 +75,8 @@ ask-spec =
     canonical-card-requires
     enum-told-4
     class-marks-requires
+    enum-told-5
+    name-of-molfile-requires
     same-length
     returns
     same-length-2
@@ -70,4 +84,6 @@ ask-spec =
     same-length-3
     returns-3
     same-length-4
-    returns-4)
+    returns-4
+    same-length-5
+    returns-5)

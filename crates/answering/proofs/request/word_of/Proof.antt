@@ -50,14 +50,32 @@ returns-4 c =
       sym (c .before .is-word4 .ensures) ∙ c .if4 .taken,
     )
 
+slice-aggregate-is-word-5 : tie.Need-slice-aggregate-is-word-5
+slice-aggregate-is-word-5 c = search needs
+
+is-word-requires-5 : tie.Need-is-word-requires-5
+is-word-requires-5 c κs = search needs
+
 returns-5 : tie.Need-returns-5
 unfolding wordOf
 returns-5 c =
     rw (
-      sym (c .before .before .before .before .before .before .before .before .before .before .is-word .ensures) ∙ c .before .before .before .before .before .before .before .before .before .if1 .left,
-      sym (c .before .before .before .before .before .before .before .is-word2 .ensures) ∙ c .before .before .before .before .before .before .if2 .left,
-      sym (c .before .before .before .before .is-word3 .ensures) ∙ c .before .before .before .if3 .left,
-      sym (c .before .is-word4 .ensures) ∙ c .if4 .left,
+      sym (c .before .before .before .before .before .before .before .before .before .before .before .before .before .is-word .ensures) ∙ c .before .before .before .before .before .before .before .before .before .before .before .before .if1 .left,
+      sym (c .before .before .before .before .before .before .before .before .before .before .is-word2 .ensures) ∙ c .before .before .before .before .before .before .before .before .before .if2 .left,
+      sym (c .before .before .before .before .before .before .before .is-word3 .ensures) ∙ c .before .before .before .before .before .before .if3 .left,
+      sym (c .before .before .before .before .is-word4 .ensures) ∙ c .before .before .before .if4 .left,
+      sym (c .before .is-word5 .ensures) ∙ c .if5 .taken,
+    )
+
+returns-6 : tie.Need-returns-6
+unfolding wordOf
+returns-6 c =
+    rw (
+      sym (c .before .before .before .before .before .before .before .before .before .before .before .before .before .is-word .ensures) ∙ c .before .before .before .before .before .before .before .before .before .before .before .before .if1 .left,
+      sym (c .before .before .before .before .before .before .before .before .before .before .is-word2 .ensures) ∙ c .before .before .before .before .before .before .before .before .before .if2 .left,
+      sym (c .before .before .before .before .before .before .before .is-word3 .ensures) ∙ c .before .before .before .before .before .before .if3 .left,
+      sym (c .before .before .before .before .is-word4 .ensures) ∙ c .before .before .before .if4 .left,
+      sym (c .before .is-word5 .ensures) ∙ c .if5 .left,
     )
 
 pub word-of-spec : {M : Type 1} → statement M
@@ -76,4 +94,7 @@ word-of-spec =
     slice-aggregate-is-word-4
     is-word-requires-4
     returns-4
-    returns-5)
+    slice-aggregate-is-word-5
+    is-word-requires-5
+    returns-5
+    returns-6)
