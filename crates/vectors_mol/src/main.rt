@@ -1,4 +1,4 @@
-// The program `answers` on molfiles, sound and faulty, those of real tools among them.
+// The program `answers` on generated molfiles, sound and faulty.
 fn main() {
     answering::run(libc::STDIN_FILENO);
 }
