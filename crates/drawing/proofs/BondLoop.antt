@@ -1,10 +1,11 @@
 -- The loop over the bonds of a drawing in arrays.
 use mathlib.Core.List.{List}
 use mathlib.Core.Logic.{_≢_}
-use mathlib.Core.Path.{_≡_, sym, _∙_, ap}
+use mathlib.Core.Path.{_≡_, sym, _∙_, ap, subst}
 use Prim.Native.Nat.{ℕ, _+_, _<_, _≤_}
+use native.Mathlib.Decide.{ℕ-discrete}
 use native.Mathlib.Omega.{arith}
-use lib.ListN.{length, getD, set}
+use lib.ListN.{length, getD}
 use Rattle.lists.proofs.Upto.{getD-each, length-each}
 use Rattle.table.specs.declared.Table.{Table}
 use Rattle.table.specs.View.{arraysOf}
@@ -18,7 +19,7 @@ use Rattle.drawing.specs.declared.Folded.{Folded}
 use Rattle.drawing.specs.declared.atoms.Bare.{Bare}
 use Rattle.drawing.specs.View.{bondOf, drawingIn}
 use Rattle.drawing.specs.Tests.{HasAtoms, endsTested}
-use Rattle.drawing.specs.Folding.{heaviesTo, Bares, Linkable, Linked, BondsFolded}
+use Rattle.drawing.specs.Folding.{heaviesTo, Bares, Foldable, BondFolded, BondsFolded}
 use Rattle.drawing.proofs.Taken.{taken-length, taken-there}
 use Rattle.drawing.proofs.Folding.{faultAt, FoldedTo, folded-start}
 use Rattle.drawing.proofs.Step.{changed, ends, step-absent, step-inside, step-linkable, step-wrong, step-next}
@@ -69,32 +70,43 @@ module _ (kinds one two codes : List ℕ) (atoms bonds : ℕ) (A : HasAtoms kind
     tested-is : tested ≡ ends drawn t marks k F later kinds kind-is i j code same
     tested-is = ap (λ (n : ℕ). endsTested kinds marks n (table.bondOf i j code)) (sym atoms-length)
 
-    pub loop-absent : (v : ℕ) → v ≡ tested → v ≢ 0 → (r : Folded) → r .refusal ≡ v → BondsFolded drawn marks r
-    loop-absent v e z r q =
-        let f = e ∙ tested-is in
-        refused-with r v marks (f ∙ step-absent drawn t marks k F later kinds kind-is i j code same (λ x. z (f ∙ x))) z q
+    absent-is : tested ≢ 0 → tested ≡ bondsFault drawn
+    absent-is z = tested-is ∙ step-absent drawn t marks k F later kinds kind-is i j code same (λ x. z (tested-is ∙ x))
 
-    module _ (v : ℕ) (e : v ≡ tested) (z : v ≡ 0) where
-      passed : ends drawn t marks k F later kinds kind-is i j code same ≡ 0
-      passed = sym tested-is ∙ sym e ∙ z
+    module _ (B : Bare) (N : Bares (drawn .kinds) B) where
+      module _ (z : tested ≡ 0) where
+        passed : ends drawn t marks k F later kinds kind-is i j code same ≡ 0
+        passed = sym tested-is ∙ z
 
-      pub loop-inside : (i < atoms) × (j < atoms)
-      loop-inside = let w = step-inside drawn t marks k F later kinds kind-is i j code same passed in (omega (arith, atoms-length, w .0), omega (arith, atoms-length, w .1))
-
-      module _ (B : Bare) (N : Bares (drawn .kinds) B) where
         number-one : getD (B .numbers) i 0 ≡ length (heaviesTo (drawn .kinds) i)
-        number-one = N .numbers i (omega (arith, atoms-length, loop-inside .0))
+        number-one = N .numbers i (step-inside drawn t marks k F later kinds kind-is i j code same passed .0)
 
         number-two : getD (B .numbers) j 0 ≡ length (heaviesTo (drawn .kinds) j)
-        number-two = N .numbers j (omega (arith, atoms-length, loop-inside .1))
+        number-two = N .numbers j (step-inside drawn t marks k F later kinds kind-is i j code same passed .1)
 
-        pub loop-linkable : Linkable (t .n) (rowsOf (arraysOf t)) (getD kinds i 0) (getD kinds j 0) (table.bondOf (getD (B .numbers) i 0) (getD (B .numbers) j 0) code)
-        loop-linkable = step-linkable drawn t marks k F later kinds kind-is i j code same passed _ _ number-one number-two
+      pub loop-foldable : Foldable kinds (B .numbers) atoms (t .n) marks (rowsOf (arraysOf t)) (table.bondOf i j code)
+      loop-foldable = record {
+        few = A .few;
+        linkable = λ z. step-linkable drawn t marks k F later kinds kind-is i j code same (passed z) _ _ (number-one z) (number-two z);
+      }
 
-        module _ (r : ℕ) (R : RowArrays) (hs : List ℕ)
-            (P : Linked (t .n) (rowsOf (arraysOf t)) (t .hydrogens) (getD kinds i 0) (getD kinds j 0) (table.bondOf (getD (B .numbers) i 0) (getD (B .numbers) j 0) code) r R hs) where
-          pub loop-wrong : r ≢ 0 → (s : Folded) → s .refusal ≡ r → BondsFolded drawn marks s
-          loop-wrong n s q = refused-with s r marks (step-wrong drawn t marks k F later kinds kind-is i j code same passed _ _ number-one number-two r R hs P n) n q
+      module _ (r : ℕ) (marks′ : List ℕ) (R : RowArrays) (hs : List ℕ)
+          (P : BondFolded kinds (B .numbers) atoms (t .n) marks (rowsOf (arraysOf t)) (t .hydrogens) (table.bondOf i j code) r marks′ R hs) where
+        wrong-is : (z : tested ≡ 0) → r ≢ 0 → r ≡ bondsFault drawn
+        wrong-is z = step-wrong drawn t marks k F later kinds kind-is i j code same (passed z) _ _ (number-one z) (number-two z) r R hs (P .linked z)
 
-          pub loop-next : r ≡ 0 → FoldedTo drawn (changed t R hs) (set (set marks i 1) j 1) (k + 1)
-          loop-next = step-next drawn t marks k F later kinds kind-is i j code same passed _ _ number-one number-two r R hs P
+        pub loop-refused : r ≢ 0 → (s : Folded) → s .refusal ≡ r → BondsFolded drawn marks′ s
+        loop-refused n s q = refused-with s r marks′ (go (ℕ-discrete tested 0)) n q
+          where
+            go : Dec (tested ≡ 0) → r ≡ bondsFault drawn
+            go (yes z) = wrong-is z n
+            go (no z) = P .absent z ∙ absent-is z
+
+        pub loop-next : r ≡ 0 → FoldedTo drawn (changed t R hs) marks′ (k + 1)
+        loop-next n = go (ℕ-discrete tested 0)
+          where
+            go : Dec (tested ≡ 0) → FoldedTo drawn (changed t R hs) marks′ (k + 1)
+            go (yes z) =
+                subst (λ (m : List ℕ). FoldedTo drawn (changed t R hs) m (k + 1)) (sym (P .marked z n))
+                (step-next drawn t marks k F later kinds kind-is i j code same (passed z) _ _ (number-one z) (number-two z) r R hs (P .linked z) n)
+            go (no z) = absurd (z (sym (P .absent z) ∙ n))

@@ -7,10 +7,12 @@ use native.Mathlib.Omega.{arith}
 use lib.Dec.{eqb, leb, ltb}
 use borrow.Author.Tests.{ltb-true, ne-eqb}
 use Rattle.lists.proofs.Booleans.{or-neither, unless}
+use Rattle.molecule.specs.Bonds.{Bond}
 use Rattle.table.specs.Arrays.{codeFound}
 use Rattle.table.specs.Changes.{bondOf, RowArrays, BondPut}
 use Rattle.card.specs.Tests.{bondTested}
 use Rattle.drawing.specs.Tests.{capped}
+use Rattle.drawing.specs.Folding.{Linked}
 
 module _ (n : ℕ) (degrees near codes : List ℕ) (a b code byte : ℕ) (e : byte ≡ capped code) where
   zero-alike : eqb byte 0 ≡ eqb code 0
@@ -42,3 +44,6 @@ module _ (n : ℕ) (degrees near codes : List ℕ) (a b code byte : ℕ) (e : by
 
 pub put-same : (R : RowArrays) (a b byte code : ℕ) (R′ : RowArrays) → byte ≡ code → BondPut R a b byte R′ → BondPut R a b code R′
 put-same R a b byte code R′ e P = subst (λ (x : ℕ). BondPut R a b x R′) e P
+
+pub linked-zero : (n : ℕ) (R : RowArrays) (hs : List ℕ) (kind other : ℕ) (b : Bond) (r : ℕ) (R′ : RowArrays) (hs′ : List ℕ) → r ≡ 0 → Linked n R hs kind other b r R′ hs′ → Linked n R hs kind other b 0 R′ hs′
+linked-zero n R hs kind other b r R′ hs′ e P = subst (λ (x : ℕ). Linked n R hs kind other b x R′ hs′) e P

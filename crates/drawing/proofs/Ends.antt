@@ -28,6 +28,13 @@ table false true true s false j = refl
 table false true false s t j = refl
 table false false c s t j = refl
 
+-- the ends of a bond that passes are there
+pub tested-inside : (kinds used : List ℕ) (atoms : ℕ) (b : Bond) → endsTested kinds used atoms b ≡ 0 → (b .one < atoms) × (b .two < atoms)
+unfolding endsTested
+tested-inside kinds used atoms b z =
+    let w = or-neither (leb atoms (b .one)) (leb atoms (b .two)) (unless _ 4 _ z .0) in
+    (leb-false atoms (b .one) (w .0), leb-false atoms (b .two) (w .1))
+
 module _ (d : Drawing) (before : List Bond) (kinds used : List ℕ)
     (K : (p : ℕ) → p < length (d .kinds) → getD kinds p 0 ≡ getD (d .kinds) p 25)
     (U : (p : ℕ) → p < length (d .kinds) → getD used p 0 ≡ cond (some (map (on p) before)) 1 0) (b : Bond) where
@@ -69,8 +76,7 @@ module _ (d : Drawing) (before : List Bond) (kinds used : List ℕ)
 
   module _ (z : tested ≡ 0) where
     pub ends-inside : Inside d b
-    unfolding endsTested
-    ends-inside = inside (unless _ 4 _ z .0)
+    ends-inside = tested-inside kinds used (length (d .kinds)) b z
 
     -- the other end of a bond to an H is none
     pub ends-other : isH d (b .one) ≡ true → isH d (b .two) ≡ false

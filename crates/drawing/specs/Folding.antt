@@ -2,7 +2,7 @@
 use mathlib.Core.Bool.{cond, not}
 use mathlib.Core.List.{List, map}
 use mathlib.Core.Path.{_≡_}
-use Prim.Native.Nat.{ℕ, _+_, _<_}
+use Prim.Native.Nat.{ℕ, _+_, _<_, _≤_}
 use lib.Dec.{eqb}
 use lib.ListN.{length, getD, set}
 use Rattle.lists.specs.Upto.{upto}
@@ -20,7 +20,7 @@ use Rattle.ctfile.specs.Filed.{Drawing}
 use Rattle.ctfile.specs.Drawings.{folded, bondsFault, hydrogensFault, apartFault, drawingFault}
 use Rattle.drawing.specs.declared.Folded.{Folded}
 use Rattle.drawing.specs.declared.atoms.Bare.{Bare}
-use Rattle.drawing.specs.Tests.{capped, oneMore, loneIn}
+use Rattle.drawing.specs.Tests.{endsTested, capped, oneMore, loneIn}
 
 -- ---- The atoms
 
@@ -44,6 +44,10 @@ pub record Bares (ks : List ℕ) (r : Bare) : Type 0 where
   pub numbers : (p : ℕ) → p < length ks → getD (r .numbers) p 0 ≡ length (heaviesTo ks p)
 
 -- ---- The bonds
+
+-- a bond with the numbers of its atoms in place of their places
+abbrev pub numbered : List ℕ → Bond → Bond
+numbered numbers b = record { one = getD numbers (b .one) 0; two = getD numbers (b .two) 0; code = b .code }
 
 abbrev pub judgedIn : ℕ → RowArrays → Bond → ℕ
 judgedIn n R b = bondTested n (R .degrees) (R .near) (R .codes) b
@@ -69,6 +73,16 @@ pub record Linked (n : ℕ) (R : RowArrays) (hs : List ℕ) (kind other : ℕ) (
   pub two : (kind ≡ 0 → ⊥) → other ≡ 0 → Unlinked R hs (b .one) r R′ hs′
   pub judged : (kind ≡ 0 → ⊥) → (other ≡ 0 → ⊥) → r ≡ judgedIn n R b
   pub bond : (kind ≡ 0 → ⊥) → (other ≡ 0 → ⊥) → r ≡ 0 → BondPut R (b .one) (b .two) (b .code) R′ × (hs′ ≡ hs)
+
+-- the same of a bond between places of the file
+pub record Foldable (kinds numbers : List ℕ) (atoms n : ℕ) (used : List ℕ) (R : RowArrays) (b : Bond) : Type 0 where
+  pub few : atoms ≤ 999
+  pub linkable : endsTested kinds used atoms b ≡ 0 → Linkable n R (getD kinds (b .one) 0) (getD kinds (b .two) 0) (numbered numbers b)
+
+pub record BondFolded (kinds numbers : List ℕ) (atoms n : ℕ) (used : List ℕ) (R : RowArrays) (hs : List ℕ) (b : Bond) (r : ℕ) (used′ : List ℕ) (R′ : RowArrays) (hs′ : List ℕ) : Type 0 where
+  pub absent : (endsTested kinds used atoms b ≡ 0 → ⊥) → r ≡ endsTested kinds used atoms b
+  pub linked : endsTested kinds used atoms b ≡ 0 → Linked n R hs (getD kinds (b .one) 0) (getD kinds (b .two) 0) (numbered numbers b) r R′ hs′
+  pub marked : endsTested kinds used atoms b ≡ 0 → r ≡ 0 → used′ ≡ set (set used (b .one) 1) (b .two) 1
 
 -- ---- The whole
 

@@ -5,7 +5,7 @@ ghost use lib.ListN.{length, getD, take, set};
 ghost use Rattle.table.specs.Changes.{bondOf};
 ghost use Rattle.drawing.specs.View.{drawingIn};
 ghost use Rattle.drawing.specs.Tests.{HasAtoms, hTested, endsTested, capped, oneMore};
-ghost use Rattle.drawing.specs.Folding.{Linkable, Linked, Bares, BondsFolded};
+ghost use Rattle.drawing.specs.Folding.{Linkable, Linked, Foldable, BondFolded, Bares, BondsFolded};
 use super::Folded;
 use super::Limits;
 use super::atoms::Bare;
@@ -120,6 +120,50 @@ fn put_link(
     0
 }
 
+// Judges a bond by 5, 7, 6 and 4, folds it and marks its two atoms as bonded.
+fn fold_bond<'a>(
+    kinds: &'a [u8; Limits::ATOMS],
+    numbers: &'a [u8; Limits::ATOMS],
+    atoms: usize,
+    n: usize,
+    used: &mut [u8; Limits::ATOMS],
+    degrees: &mut [u8; Table::MAX_ATOMS],
+    near: &mut [u8; Table::SLOTS],
+    codes: &mut [u8; Table::SLOTS],
+    hydrogens: &mut [u8; Table::MAX_ATOMS],
+    i: usize,
+    j: usize,
+    code: u16,
+) -> u8
+    requires { ⌜ Foldable (now kinds) (now numbers) atoms n (now used) (record { degrees = now degrees; near = now near; codes = now codes }) (bondOf i j code) ⌝ }
+    ensures { λ r. ⌜ BondFolded (now (kinds .entry)) (now (numbers .entry)) atoms n (now (used .entry)) (record { degrees = now (degrees .entry); near = now (near .entry); codes = now (codes .entry) }) (now (hydrogens .entry)) (bondOf i j code) r (now (used .exit)) (record { degrees = now (degrees .exit); near = now (near .exit); codes = now (codes .exit) }) (now (hydrogens .exit)) ⌝ }
+{
+    let absent = ends_fault(kinds, used, atoms, i, j, code);
+    if absent != 0 {
+        return absent;
+    }
+    let a = AtomNo(numbers[i]);
+    let b = AtomNo(numbers[j]);
+    let wrong = put_link(
+        n,
+        degrees,
+        near,
+        codes,
+        hydrogens,
+        kinds[i],
+        kinds[j],
+        a,
+        b,
+        code,
+    );
+    if wrong != 0 {
+        return wrong;
+    }
+    used[i] = 1;
+    used[j] = 1;
+    0
+}
+
 // The bonds in order, each put into the arrays in place; the table is made once, at the end. Marks the atoms that have a bond.
 pub fn fold_bonds<'a>(
     kinds: &'a [u8; Limits::ATOMS],
@@ -144,30 +188,23 @@ pub fn fold_bonds<'a>(
     let mut coded = t.codes;
     let mut k: usize = 0;
     while k < bonds {
-        let i = far(one[k]);
-        let j = far(two[k]);
-        let code = codes[k];
-        let absent = ends_fault(kinds, used, atoms, i, j, code);
-        if absent != 0 {
-            return refused(absent);
-        }
-        let wrong = put_link(
+        let fault = fold_bond(
+            kinds,
+            &numbers,
+            atoms,
             n,
+            used,
             &mut degrees,
             &mut near,
             &mut coded,
             &mut hydrogens,
-            kinds[i],
-            kinds[j],
-            AtomNo(numbers[i]),
-            AtomNo(numbers[j]),
-            code,
+            far(one[k]),
+            far(two[k]),
+            codes[k],
         );
-        if wrong != 0 {
-            return refused(wrong);
+        if fault != 0 {
+            return refused(fault);
         }
-        used[i] = 1;
-        used[j] = 1;
         k += 1;
     }
     let table = Table {

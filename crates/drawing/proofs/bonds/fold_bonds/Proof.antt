@@ -3,8 +3,8 @@ use mathlib.Core.Path.{refl}
 use Prim.Native.Nat.{_-_}
 use native.Mathlib.Omega.{arith}
 use Rattle.drawing.specs.View.{drawingIn}
+use Rattle.drawing.proofs.BondLoop.{loop-start, loop-done, loop-foldable, loop-refused, loop-next}
 use Rattle.drawing.proofs.Folding.{FoldedTo}
-use Rattle.drawing.proofs.BondLoop.{loop-start, loop-done, loop-absent, loop-inside, loop-linkable, loop-wrong, loop-next}
 use borrow.Author.Needs.{needs}
 use Rattle.drawing.proofs.bonds.fold_bonds.Statement.{statement}
 use Rattle.drawing.proofs.bonds.fold_bonds.Tie as tie
@@ -41,99 +41,44 @@ element-copy-out-far-2 c = search needs
 far-requires-2 : tie.Need-far-requires-2 Inv-loop μ-loop
 far-requires-2 c κs = search needs
 
-mul-code : tie.Need-mul-code Inv-loop μ-loop
-mul-code c = search needs
+mul-fold-bond : tie.Need-mul-fold-bond Inv-loop μ-loop
+mul-fold-bond c = search needs
 
-element-copy-out-code : tie.Need-element-copy-out-code Inv-loop μ-loop
-element-copy-out-code c = search needs
+element-copy-out-fold-bond : tie.Need-element-copy-out-fold-bond Inv-loop μ-loop
+element-copy-out-fold-bond c = search needs
 
-ends-fault-requires : tie.Need-ends-fault-requires Inv-loop μ-loop
-ends-fault-requires c κs = c .before .before .before .before .before .before .before .before .before .before .before .before .before .before .before .pre .0 .few
+fold-bond-requires : tie.Need-fold-bond-requires Inv-loop μ-loop
+fold-bond-requires c κs =
+    let l = c .before .before .before .before .before .before .before .before .before .before .before .before in
+    let s = l .before .before .before .before .before .before .before .before in
+    let a = s .args in
+    loop-foldable (a .kinds .now) (a .one .now) (a .two .now) (a .codes .now) (a .atoms) (a .bonds) (s .pre .0) _ _ (l .loop .k) (l .loop .inv) (c .before .before .before .before .before .before .before .before .before .before .before .loop-test .taken) _ _ _ (c .before .before .before .far .ensures) (c .before .far2 .ensures) refl (a .bare) (s .pre .2)
 
 refused-requires : tie.Need-refused-requires Inv-loop μ-loop
 refused-requires c κs = search needs
 
 returns : tie.Need-returns Inv-loop μ-loop
 returns c =
-    let l = c .before .before .before .before .before .before .before .before .before .before in
-    let s = l .before .before .before .before .before .before .before .before in
-    let a = s .args in
-    loop-absent (a .kinds .now) (a .one .now) (a .two .now) (a .codes .now) (a .atoms) (a .bonds) (s .pre .0) _ _ (l .loop .k) (l .loop .inv) (c .before .before .before .before .before .before .before .before .before .loop-test .taken) _ _ _ (c .before .before .before .before .before .before .before .far .ensures) (c .before .before .before .before .before .far2 .ensures) refl _ (c .before .before .ends-fault .ensures) (c .before .if1 .taken) _ (c .refused .ensures)
-
-element-copy-out-put-link : tie.Need-element-copy-out-put-link Inv-loop μ-loop
-element-copy-out-put-link c =
-    let l = c .before .before .before .before .before .before .before .before .before .before .before .before .before in
-    let s = l .before .before .before .before .before .before .before .before in
-    let a = s .args in
-    omega (arith, s .pre .0 .few, loop-inside (a .kinds .now) (a .one .now) (a .two .now) (a .codes .now) (a .atoms) (a .bonds) (s .pre .0) _ _ (l .loop .k) (l .loop .inv) (c .before .before .before .before .before .before .before .before .before .before .before .before .loop-test .taken) _ _ _ (c .before .before .before .before .before .before .before .before .before .before .far .ensures) (c .before .before .before .before .before .before .before .before .far2 .ensures) refl _ (c .before .before .before .before .before .ends-fault .ensures) (c .before .before .before .before .if1 .left) .0)
-
-element-copy-out-put-link-2 : tie.Need-element-copy-out-put-link-2 Inv-loop μ-loop
-element-copy-out-put-link-2 c =
-    let l = c .before .before .before .before .before .before .before .before .before .before .before .before .before .before in
-    let s = l .before .before .before .before .before .before .before .before in
-    let a = s .args in
-    omega (arith, s .pre .0 .few, loop-inside (a .kinds .now) (a .one .now) (a .two .now) (a .codes .now) (a .atoms) (a .bonds) (s .pre .0) _ _ (l .loop .k) (l .loop .inv) (c .before .before .before .before .before .before .before .before .before .before .before .before .before .loop-test .taken) _ _ _ (c .before .before .before .before .before .before .before .before .before .before .before .far .ensures) (c .before .before .before .before .before .before .before .before .before .far2 .ensures) refl _ (c .before .before .before .before .before .before .ends-fault .ensures) (c .before .before .before .before .before .if1 .left) .1)
-
-array-read-t46 : tie.Need-array-read-t46 Inv-loop μ-loop
-array-read-t46 c =
     let l = c .before .before .before .before .before .before .before .before .before .before .before .before .before .before .before in
     let s = l .before .before .before .before .before .before .before .before in
     let a = s .args in
-    omega (arith, s .pre .0 .few, loop-inside (a .kinds .now) (a .one .now) (a .two .now) (a .codes .now) (a .atoms) (a .bonds) (s .pre .0) _ _ (l .loop .k) (l .loop .inv) (c .before .before .before .before .before .before .before .before .before .before .before .before .before .before .loop-test .taken) _ _ _ (c .before .before .before .before .before .before .before .before .before .before .before .before .far .ensures) (c .before .before .before .before .before .before .before .before .before .before .far2 .ensures) refl _ (c .before .before .before .before .before .before .before .ends-fault .ensures) (c .before .before .before .before .before .before .if1 .left) .0)
-
-array-read-t50 : tie.Need-array-read-t50 Inv-loop μ-loop
-array-read-t50 c =
-    let l = c .before .before .before .before .before .before .before .before .before .before .before .before .before .before .before in
-    let s = l .before .before .before .before .before .before .before .before in
-    let a = s .args in
-    omega (arith, s .pre .0 .few, loop-inside (a .kinds .now) (a .one .now) (a .two .now) (a .codes .now) (a .atoms) (a .bonds) (s .pre .0) _ _ (l .loop .k) (l .loop .inv) (c .before .before .before .before .before .before .before .before .before .before .before .before .before .before .loop-test .taken) _ _ _ (c .before .before .before .before .before .before .before .before .before .before .before .before .far .ensures) (c .before .before .before .before .before .before .before .before .before .before .far2 .ensures) refl _ (c .before .before .before .before .before .before .before .ends-fault .ensures) (c .before .before .before .before .before .before .if1 .left) .1)
-
-put-link-requires : tie.Need-put-link-requires Inv-loop μ-loop
-put-link-requires c κs =
-    let l = c .before .before .before .before .before .before .before .before .before .before .before .before .before .before .before in
-    let s = l .before .before .before .before .before .before .before .before in
-    let a = s .args in
-    loop-linkable (a .kinds .now) (a .one .now) (a .two .now) (a .codes .now) (a .atoms) (a .bonds) (s .pre .0) _ _ (l .loop .k) (l .loop .inv) (c .before .before .before .before .before .before .before .before .before .before .before .before .before .before .loop-test .taken) _ _ _ (c .before .before .before .before .before .before .before .before .before .before .before .before .far .ensures) (c .before .before .before .before .before .before .before .before .before .before .far2 .ensures) refl _ (c .before .before .before .before .before .before .before .ends-fault .ensures) (c .before .before .before .before .before .before .if1 .left) (a .bare) (s .pre .2)
-
-refused-requires-2 : tie.Need-refused-requires-2 Inv-loop μ-loop
-refused-requires-2 c κs = search needs
-
-returns-2 : tie.Need-returns-2 Inv-loop μ-loop
-returns-2 c =
-    let l = c .before .before .before .before .before .before .before .before .before .before .before .before .before .before .before .before .before .before in
-    let s = l .before .before .before .before .before .before .before .before in
-    let a = s .args in
-    loop-wrong (a .kinds .now) (a .one .now) (a .two .now) (a .codes .now) (a .atoms) (a .bonds) (s .pre .0) _ _ (l .loop .k) (l .loop .inv) (c .before .before .before .before .before .before .before .before .before .before .before .before .before .before .before .before .before .loop-test .taken) _ _ _ (c .before .before .before .before .before .before .before .before .before .before .before .before .before .before .before .far .ensures) (c .before .before .before .before .before .before .before .before .before .before .before .before .before .far2 .ensures) refl _ (c .before .before .before .before .before .before .before .before .before .before .ends-fault .ensures) (c .before .before .before .before .before .before .before .before .before .if1 .left) (a .bare) (s .pre .2) _ _ _ (c .before .before .put-link .ensures) (c .before .if2 .taken) _ (c .refused2 .ensures)
-
-element-write-used : tie.Need-element-write-used Inv-loop μ-loop
-element-write-used c =
-    let l = c .before .before .before .before .before .before .before .before .before .before .before .before .before .before .before .before .before in
-    let s = l .before .before .before .before .before .before .before .before in
-    let a = s .args in
-    omega (arith, s .pre .0 .few, loop-inside (a .kinds .now) (a .one .now) (a .two .now) (a .codes .now) (a .atoms) (a .bonds) (s .pre .0) _ _ (l .loop .k) (l .loop .inv) (c .before .before .before .before .before .before .before .before .before .before .before .before .before .before .before .before .loop-test .taken) _ _ _ (c .before .before .before .before .before .before .before .before .before .before .before .before .before .before .far .ensures) (c .before .before .before .before .before .before .before .before .before .before .before .before .far2 .ensures) refl _ (c .before .before .before .before .before .before .before .before .before .ends-fault .ensures) (c .before .before .before .before .before .before .before .before .if1 .left) .0)
-
-element-write-used-2 : tie.Need-element-write-used-2 Inv-loop μ-loop
-element-write-used-2 c =
-    let l = c .before .before .before .before .before .before .before .before .before .before .before .before .before .before .before .before .before in
-    let s = l .before .before .before .before .before .before .before .before in
-    let a = s .args in
-    omega (arith, s .pre .0 .few, loop-inside (a .kinds .now) (a .one .now) (a .two .now) (a .codes .now) (a .atoms) (a .bonds) (s .pre .0) _ _ (l .loop .k) (l .loop .inv) (c .before .before .before .before .before .before .before .before .before .before .before .before .before .before .before .before .loop-test .taken) _ _ _ (c .before .before .before .before .before .before .before .before .before .before .before .before .before .before .far .ensures) (c .before .before .before .before .before .before .before .before .before .before .before .before .far2 .ensures) refl _ (c .before .before .before .before .before .before .before .before .before .ends-fault .ensures) (c .before .before .before .before .before .before .before .before .if1 .left) .1)
+    loop-refused (a .kinds .now) (a .one .now) (a .two .now) (a .codes .now) (a .atoms) (a .bonds) (s .pre .0) _ _ (l .loop .k) (l .loop .inv) (c .before .before .before .before .before .before .before .before .before .before .before .before .before .before .loop-test .taken) _ _ _ (c .before .before .before .before .before .before .far .ensures) (c .before .before .before .before .far2 .ensures) refl (a .bare) (s .pre .2) _ _ _ _ (c .before .before .fold-bond .ensures) (c .before .if1 .taken) _ (c .refused .ensures)
 
 add-k : tie.Need-add-k Inv-loop μ-loop
-add-k c = omega (arith, c .before .before .before .before .before .before .before .before .before .before .before .before .before .before .before .before .loop-test .taken, c .before .before .before .before .before .before .before .before .before .before .before .before .before .before .before .before .before .before .before .before .before .before .before .before .before .pre .1)
+add-k c = omega (arith, c .before .before .before .before .before .before .before .before .before .before .before .before .before .loop-test .taken, c .before .before .before .before .before .before .before .before .before .before .before .before .before .before .before .before .before .before .before .before .before .before .pre .1)
 
 loop-less : tie.Need-loop-less Inv-loop μ-loop
-loop-less c = omega (arith, c .before .before .before .before .before .before .before .before .before .before .before .before .before .before .before .before .loop-test .taken)
+loop-less c = omega (arith, c .before .before .before .before .before .before .before .before .before .before .before .before .before .loop-test .taken)
 
 loop-again : tie.Need-loop-again Inv-loop μ-loop
 loop-again c =
-    let l = c .before .before .before .before .before .before .before .before .before .before .before .before .before .before .before .before .before in
+    let l = c .before .before .before .before .before .before .before .before .before .before .before .before .before .before in
     let s = l .before .before .before .before .before .before .before .before in
     let a = s .args in
-    loop-next (a .kinds .now) (a .one .now) (a .two .now) (a .codes .now) (a .atoms) (a .bonds) (s .pre .0) _ _ (l .loop .k) (l .loop .inv) (c .before .before .before .before .before .before .before .before .before .before .before .before .before .before .before .before .loop-test .taken) _ _ _ (c .before .before .before .before .before .before .before .before .before .before .before .before .before .before .far .ensures) (c .before .before .before .before .before .before .before .before .before .before .before .before .far2 .ensures) refl _ (c .before .before .before .before .before .before .before .before .before .ends-fault .ensures) (c .before .before .before .before .before .before .before .before .if1 .left) (a .bare) (s .pre .2) _ _ _ (c .before .put-link .ensures) (c .if2 .left)
+    loop-next (a .kinds .now) (a .one .now) (a .two .now) (a .codes .now) (a .atoms) (a .bonds) (s .pre .0) _ _ (l .loop .k) (l .loop .inv) (c .before .before .before .before .before .before .before .before .before .before .before .before .before .loop-test .taken) _ _ _ (c .before .before .before .before .before .far .ensures) (c .before .before .before .far2 .ensures) refl (a .bare) (s .pre .2) _ _ _ _ (c .before .fold-bond .ensures) (c .if1 .left)
 
-returns-3 : tie.Need-returns-3 Inv-loop μ-loop
-returns-3 c =
+returns-2 : tie.Need-returns-2 Inv-loop μ-loop
+returns-2 c =
     let l = c .before in
     let s = l .before .before .before .before .before .before .before .before in
     let a = s .args in
@@ -152,21 +97,12 @@ fold-bonds-spec =
     mul-far-2
     element-copy-out-far-2
     far-requires-2
-    mul-code
-    element-copy-out-code
-    ends-fault-requires
+    mul-fold-bond
+    element-copy-out-fold-bond
+    fold-bond-requires
     refused-requires
     returns
-    element-copy-out-put-link
-    element-copy-out-put-link-2
-    array-read-t46
-    array-read-t50
-    put-link-requires
-    refused-requires-2
-    returns-2
-    element-write-used
-    element-write-used-2
     add-k
     loop-less
     loop-again
-    returns-3)
+    returns-2)
