@@ -49,6 +49,7 @@ pub record Bares (ks : List ℕ) (r : Bare) : Type 0 where
 abbrev pub numbered : List ℕ → Bond → Bond
 numbered numbers b = record { one = getD numbers (b .one) 0; two = getD numbers (b .two) 0; code = b .code }
 
+-- 5, 6, 4 for a bond, by the rows of n atoms
 abbrev pub judgedIn : ℕ → RowArrays → Bond → ℕ
 judgedIn n R b = bondTested n (R .degrees) (R .near) (R .codes) b
 
@@ -63,22 +64,25 @@ pub record Linkable (n : ℕ) (R : RowArrays) (kind other : ℕ) (b : Bond) : Ty
 abbrev pub counted : List ℕ → ℕ → List ℕ
 counted hs a = set hs a (oneMore (getD hs a 0))
 
+-- a bond to an H whose other end is atom a: it counts, and the rows stay
 pub record Unlinked (R : RowArrays) (hs : List ℕ) (a r : ℕ) (R′ : RowArrays) (hs′ : List ℕ) : Type 0 where
   pub none : r ≡ 0
   pub rows : R′ ≡ R
   pub hydrogens : hs′ ≡ counted hs a
 
+-- what becomes of a bond between atoms of these kinds, r the refusal
 pub record Linked (n : ℕ) (R : RowArrays) (hs : List ℕ) (kind other : ℕ) (b : Bond) (r : ℕ) (R′ : RowArrays) (hs′ : List ℕ) : Type 0 where
   pub one : kind ≡ 0 → Unlinked R hs (b .two) r R′ hs′
   pub two : (kind ≡ 0 → ⊥) → other ≡ 0 → Unlinked R hs (b .one) r R′ hs′
   pub judged : (kind ≡ 0 → ⊥) → (other ≡ 0 → ⊥) → r ≡ judgedIn n R b
   pub bond : (kind ≡ 0 → ⊥) → (other ≡ 0 → ⊥) → r ≡ 0 → BondPut R (b .one) (b .two) (b .code) R′ × (hs′ ≡ hs)
 
--- the same of a bond between places of the file
+-- the arrays have room for a bond between places of the file
 pub record Foldable (kinds numbers : List ℕ) (atoms n : ℕ) (used : List ℕ) (R : RowArrays) (b : Bond) : Type 0 where
   pub few : atoms ≤ 999
   pub linkable : endsTested kinds used atoms b ≡ 0 → Linkable n R (getD kinds (b .one) 0) (getD kinds (b .two) 0) (numbered numbers b)
 
+-- what becomes of it: 5 and 7 come first
 pub record BondFolded (kinds numbers : List ℕ) (atoms n : ℕ) (used : List ℕ) (R : RowArrays) (hs : List ℕ) (b : Bond) (r : ℕ) (used′ : List ℕ) (R′ : RowArrays) (hs′ : List ℕ) : Type 0 where
   pub absent : (endsTested kinds used atoms b ≡ 0 → ⊥) → r ≡ endsTested kinds used atoms b
   pub linked : endsTested kinds used atoms b ≡ 0 → Linked n R hs (getD kinds (b .one) 0) (getD kinds (b .two) 0) (numbered numbers b) r R′ hs′
@@ -98,11 +102,13 @@ pub record Holds (d : Drawing) (t : Table) : Type 0 where
 abbrev pub Used : Drawing → List ℕ → Type 0
 Used d marks = (p : ℕ) → p < length (d .kinds) → getD marks p 0 ≡ cond (some (map (on p) (d .bonds))) 1 0
 
+-- all bonds judged, and folded where none is refused
 pub record BondsFolded (d : Drawing) (marks : List ℕ) (r : Folded) : Type 0 where
   pub refusal : r .refusal ≡ bondsFault d
   pub table : r .refusal ≡ 0 → Holds d (r .table)
   pub used : r .refusal ≡ 0 → Used d marks
 
+-- "once all bonds are judged, an H without a bond is 7, then hydrogens on one atom and their total are 4, then 8"
 pub record Finished (kinds used : List ℕ) (atoms : ℕ) (t : Table) (r : Folded) : Type 0 where
   pub refusal : r .refusal ≡ orNext (cond (loneIn kinds used atoms) 7 0) (orNext (hydrogensFault (viewOf t)) (apartFault (viewOf t)))
   pub table : r .refusal ≡ 0 → r .table ≡ t

@@ -49,10 +49,11 @@ endsTested kinds used atoms b =
     (cond (eqb (getD kinds (b .one) 0) 0) (hTested (getD kinds (b .two) 0) (getD used (b .one) 0) (b .code))
     (cond (eqb (getD kinds (b .two) 0) 0) (hTested (getD kinds (b .one) 0) (getD used (b .two) 0) (b .code)) 0))
 
--- hydrogens counted to one over the limit
+-- "0 to 4 hydrogens", and codes 1 to 4: what is over 4 need not be told apart
 abbrev pub capped : ℕ → ℕ
 capped h = cond (ltb 4 h) 5 h
 
+-- one more, where no more than one over 4 is counted
 abbrev pub oneMore : ℕ → ℕ
 oneMore h = cond (ltb 4 h) h (h + 1)
 
