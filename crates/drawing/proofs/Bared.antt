@@ -13,10 +13,10 @@ use borrow.Author.Tests.{ne-eqb, eqb-false}
 use Rattle.lists.specs.Upto.{from}
 use Rattle.lists.specs.Tests.{keep, count}
 use Rattle.lists.proofs.Upto.{each-getD}
+use Rattle.lists.proofs.KeptBelow.{count-more, kept-count, kept-hit, kept-miss, kept-at}
 use Rattle.table.proofs.Unbonded.{unbonded-tidy, empty-row}
 use Rattle.drawing.specs.Tests.{heavyIn}
 use Rattle.drawing.specs.Folding.{heaviesTo, KindPut, Bares}
-use Rattle.drawing.proofs.Numbers.{count-more, kept-count, kept-hit, kept-miss, kept-at}
 
 module _ (ks : List ℕ) where
   abbrev pub heavy : ℕ → Bool

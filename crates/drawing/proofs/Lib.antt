@@ -1,7 +1,6 @@
 pub mod Taken
 pub mod Counting
 pub mod Codes
-pub mod Numbers
 pub mod Bared
 pub mod Links
 pub mod Ends

@@ -11,6 +11,7 @@ use Rattle.lists.specs.Tests.{keep, count, some}
 use Rattle.lists.proofs.All.{All}
 use Rattle.lists.proofs.Booleans.{or-neither}
 use Rattle.lists.proofs.Steps.{keep-append}
+use Rattle.lists.proofs.KeptBelow.{kept-at, kept-of}
 use Rattle.molecule.specs.Bonds.{Bond, on, joins, codeIn}
 use Rattle.molecule.specs.Judged.{bondJudged}
 use Rattle.molecule.proofs.BondLists.{joins-ends, Between}
@@ -19,7 +20,6 @@ use Rattle.ctfile.specs.Filed.{Drawing}
 use Rattle.ctfile.specs.Drawings.{isH, toH}
 use Rattle.drawing.specs.Folding.{heaviesTo}
 use Rattle.drawing.proofs.Taken.{getD-there}
-use Rattle.drawing.proofs.Numbers.{kept-at, kept-of}
 use Rattle.drawing.proofs.Bared.{heavy}
 
 module _ (d : Drawing) where

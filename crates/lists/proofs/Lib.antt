@@ -11,6 +11,7 @@ pub mod Passed
 pub mod Counts
 pub mod Sums
 pub mod Steps
+pub mod KeptBelow
 pub mod Flattened
 pub mod Order
 pub mod Least

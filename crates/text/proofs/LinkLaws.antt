@@ -14,6 +14,7 @@ use borrow.Author.Tests.{eq-eqb, ne-eqb, eqb-true, eqb-false, not-true}
 use Rattle.lists.specs.Tests.{count}
 use Rattle.lists.proofs.Upto.{getD-each}
 use Rattle.lists.proofs.Members.{getD-mem}
+use Rattle.lists.proofs.KeptBelow.{Kept, kept-at, kept-of}
 use Rattle.lists.proofs.Passed.{count-take}
 use Rattle.molecule.specs.Bonds.{Bond, on, joins, codeIn}
 use Rattle.molecule.specs.Molecule.{Molecule, neighbours}
@@ -37,7 +38,7 @@ use Rattle.text.specs.Holding.{bondAt, viewOf, Held}
 use Rattle.text.specs.Folding.{moleculeOf, heaviesTo, BareTo, Linkable, Links}
 use Rattle.text.proofs.ReachedLaws.{reached-reader, reached-room}
 use Rattle.text.proofs.StateLaws.{view-places, view-kind, view-bonds}
-use Rattle.text.proofs.FoldLaws.{heavy, Kept, kept-at, kept-of}
+use Rattle.text.proofs.FoldLaws.{heavy}
 
 joins-self : (p q m : ℕ) → joins p q (record { one = p; two = q; code = m }) ≡ true
 joins-self p q m = simp (eq-eqb p p refl, eq-eqb q q refl)
