@@ -73,15 +73,6 @@ count-take p [] i d h e = absurd (not-suc-le-zero h)
 count-take p (x ∷ l) zero d h e = rw e (omega arith)
 count-take p (x ∷ l) (suc i) d h e = omega (arith, count-take p l i d (omega arith) e)
 
--- what passes a test that at most one passes stands at one place
-pub once-place : {A : Type 0} (p : A → Bool) (l : List A) (d : A) → count (map p l) ≤ 1 → (i j : ℕ) → i < length l → j < length l
-    → p (getD l i d) ≡ true → p (getD l j d) ≡ true → i ≡ j
-once-place p [] d o i j h k e f = absurd (not-suc-le-zero h)
-once-place p (x ∷ l) d o zero zero h k e f = refl
-once-place p (x ∷ l) d o zero (suc j) h k e f = absurd (let n = rw e at o in omega (arith, count-take p l j d (omega arith) f))
-once-place p (x ∷ l) d o (suc i) zero h k e f = absurd (let n = rw f at o in omega (arith, count-take p l i d (omega arith) e))
-once-place p (x ∷ l) d o (suc i) (suc j) h k e f = ap suc (once-place p l d (omega arith) i j (omega arith) (omega arith) e f)
-
 -- where fewer than m pass before each that passes, at most m do
 pub count-bounded : {A : Type 0} (p : A → Bool) (l : List A) (z : A) (m : ℕ)
     → ((k : ℕ) → k < length l → p (getD l k z) ≡ true → count (map p (take k l)) < m) → count (map p l) ≤ m
