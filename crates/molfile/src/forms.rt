@@ -1,4 +1,4 @@
-// The counts line, an atom line and a bond line.
+// The counts line and an atom line.
 ghost use mathlib.Core.Path.{_≡_};
 ghost use mathlib.Core.List.{[], _∷_};
 ghost use Prim.Native.Nat.{_<_, compare};
