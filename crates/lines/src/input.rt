@@ -10,10 +10,11 @@ pub struct Unread {
     pub end: usize,
 }
 
-// A line: how many of its bytes there are, and whether it is there or the input had ended.
+// A line: how many of its bytes there are, whether it is there or the input had ended, and whether a newline ended it.
 pub struct Line {
     pub length: usize,
     pub there: bool,
+    pub ended: bool,
     pub unread: Unread,
 }
 
@@ -84,6 +85,7 @@ pub fn next_line(fd: i32, buffer: &mut [u8], unread: Unread, line: &mut [u8]) ->
             return Line {
                 length: held,
                 there: true,
+                ended: true,
                 unread: Unread { at: e + 1, end },
             };
         }
@@ -92,6 +94,7 @@ pub fn next_line(fd: i32, buffer: &mut [u8], unread: Unread, line: &mut [u8]) ->
     Line {
         length: held,
         there: 0 < held,
+        ended: false,
         unread: left,
     }
 }

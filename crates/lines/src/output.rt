@@ -3,6 +3,7 @@ ghost use mathlib.Core.List.{[], _∷_, _++_};
 ghost use Prim.Native.Nat.{_+_, _*_, _≤_, _<_};
 ghost use lib.ListN.{length};
 ghost use Rattle.lines.specs.Hex.{hexOf};
+ghost use Rattle.lines.specs.Numbers.{decimalOf};
 ghost use Rattle.lines.specs.Written.{Puts, orDash, numbered};
 
 const BLANK: u8 = 32;
@@ -26,13 +27,28 @@ pub fn put_newline(out: &mut [u8], at: usize) -> usize
     put_byte(out, at, NEWLINE)
 }
 
+// Bytes as they are.
+pub fn put_piece(out: &mut [u8], at: usize, piece: &[u8]) -> usize
+    requires { ⌜ at + length (now piece) ≤ length (now out) ⌝ }
+    ensures { λ r. ⌜ Puts (now (piece .entry)) (now (out .entry)) at (now (out .exit)) r ⌝ }
+{
+    at + bytes::copy(piece, &mut out[at..])
+}
+
+pub fn put_digits(out: &mut [u8], at: usize, n: u64) -> usize
+    requires { ⌜ at + 20 ≤ length (now out) ⌝ }
+    ensures { λ r. ⌜ Puts (decimalOf n) (now (out .entry)) at (now (out .exit)) r ⌝ }
+{
+    at + crate::number::put_decimal(n, &mut out[at..])
+}
+
 // A number and a blank.
 pub fn put_number(out: &mut [u8], at: usize, n: u64) -> usize
     requires { ⌜ at + 21 ≤ length (now out) ⌝ }
     ensures { λ r. ⌜ Puts (numbered n) (now (out .entry)) at (now (out .exit)) r ⌝ }
 {
-    let k = crate::number::put_decimal(n, &mut out[at..]);
-    put_byte(out, at + k, BLANK)
+    let end = put_digits(out, at, n);
+    put_byte(out, end, BLANK)
 }
 
 // Three numbers from the start of a buffer on, each with a blank behind it.
@@ -53,7 +69,7 @@ pub fn put_text(out: &mut [u8], at: usize, text: &[u8]) -> usize
     if text.len() == 0 {
         return put_byte(out, at, DASH);
     }
-    at + bytes::copy(text, &mut out[at..])
+    put_piece(out, at, text)
 }
 
 // Bytes in hexadecimal, or - where there are none.
