@@ -1,0 +1,4 @@
+// The name of the molfile on standard input.
+fn main() {
+    molnaming::run(libc::STDIN_FILENO);
+}

@@ -1,0 +1,5 @@
+pub mod Begun
+pub mod Held
+pub mod Named
+pub mod Placed
+pub mod Worded
