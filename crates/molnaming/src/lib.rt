@@ -29,16 +29,16 @@ pub fn run(fd: i32) {
 
 pub fn run_records(fd: i32) {
     let mut buffer = io::large_buffer();
-    let mut record = [0u8; MOST_RECORD];
+    let mut file = [0u8; MOST_RECORD];
     let mut printed = [0u8; LONGEST_LINE];
     let mut unread = Unread::nothing();
-    for before in 0u64..MOST_RECORDS {
-        let r = records::next_record(fd, &mut buffer, unread, &mut record);
+    for done in 0u64..MOST_RECORDS {
+        let r = records::next_record(fd, &mut buffer, unread, &mut file);
         if !r.there {
             return;
         }
         let n = r.length;
-        let k = line::record_line(before + 1, &record[..n], &mut printed);
+        let k = line::record_line(done + 1, &file[..n], &mut printed);
         io::write_all(STDOUT_FILENO, &printed[..k]);
         unread = r.unread;
     }
