@@ -1,4 +1,5 @@
 pub mod Begun
+pub mod Examples
 pub mod Held
 pub mod Named
 pub mod Placed

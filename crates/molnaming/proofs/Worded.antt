@@ -41,5 +41,5 @@ words-most r = go (ltb r 12) refl
     go false e =
         let high : 12 ≤ r = ltb-false r 12 e in
         let other = other-words r (λ q. omega arith) (λ q. omega arith) (λ q. omega arith) (λ q. omega arith) (λ q. omega arith)
-            (λ q. omega arith) (λ q. omega arith) (λ q. omega arith) (λ q. omega arith) (λ q. omega arith) in
+        (λ q. omega arith) (λ q. omega arith) (λ q. omega arith) (λ q. omega arith) (λ q. omega arith) in
         omega (arith, ap length other)

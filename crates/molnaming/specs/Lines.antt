@@ -20,7 +20,7 @@ wordsOf r =
     (cond (eqb r 6) (quoted.bytesOf "a bond from an atom to itself, a second bond between two atoms, or a bond type other than 1 to 4")
     (cond (eqb r 7) (quoted.bytesOf "a hydrogen with no bond, two bonds, a bond that is not single, or a bond to another hydrogen")
     (cond (eqb r 8) (quoted.bytesOf "more than one piece")
-    (cond (eqb r 9) (quoted.bytesOf "more complete numberings than the allowance of 4096")
+    (cond (eqb r 9) (quoted.bytesOf "more numberings than the allowance of 4096")
     (cond (eqb r 10) (quoted.bytesOf "a name longer than 2048 bytes")
     (cond (eqb r 11) (quoted.bytesOf "a broken or unsupported line") (quoted.bytesOf "not named"))))))))))
 

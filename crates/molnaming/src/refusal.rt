@@ -16,12 +16,24 @@ fn put_words(refusal: u8, out: &mut [u8], at: usize) -> usize
     match refusal {
         1 => output::put_piece(out, at, b"no atom but hydrogen"),
         3 => output::put_piece(out, at, b"an element that is not among the 24"),
-        4 => output::put_piece(out, at, b"too large: more than 65536 bytes, 64 atoms, 80 bonds, 128 hydrogens, 4 hydrogens or 6 bonds on one atom"),
+        4 => output::put_piece(
+            out,
+            at,
+            b"too large: more than 65536 bytes, 64 atoms, 80 bonds, 128 hydrogens, 4 hydrogens or 6 bonds on one atom",
+        ),
         5 => output::put_piece(out, at, b"a bond to an atom that the file does not have"),
-        6 => output::put_piece(out, at, b"a bond from an atom to itself, a second bond between two atoms, or a bond type other than 1 to 4"),
-        7 => output::put_piece(out, at, b"a hydrogen with no bond, two bonds, a bond that is not single, or a bond to another hydrogen"),
+        6 => output::put_piece(
+            out,
+            at,
+            b"a bond from an atom to itself, a second bond between two atoms, or a bond type other than 1 to 4",
+        ),
+        7 => output::put_piece(
+            out,
+            at,
+            b"a hydrogen with no bond, two bonds, a bond that is not single, or a bond to another hydrogen",
+        ),
         8 => output::put_piece(out, at, b"more than one piece"),
-        9 => output::put_piece(out, at, b"more complete numberings than the allowance of 4096"),
+        9 => output::put_piece(out, at, b"more numberings than the allowance of 4096"),
         10 => output::put_piece(out, at, b"a name longer than 2048 bytes"),
         11 => output::put_piece(out, at, b"a broken or unsupported line"),
         _ => output::put_piece(out, at, b"not named"),
