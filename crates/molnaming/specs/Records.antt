@@ -1,4 +1,4 @@
--- Issue 9: "SDF input (several records parted by `$$$$` lines)".
+-- SDF input: "several records parted by `$$$$` lines".
 use mathlib.Core.Bool.{Bool, cond, not, _||_}
 use mathlib.Core.List.{List, [], _∷_, _++_}
 use Prim.Native.Nat.{ℕ}
