@@ -1,4 +1,4 @@
--- SDF input: "several records parted by `$$$$` lines".
+-- The records of an SDF file, "several records parted by `$$$$` lines".
 use mathlib.Core.Bool.{Bool, cond, not, _||_}
 use mathlib.Core.List.{List, [], _∷_, _++_}
 use Prim.Native.Nat.{ℕ}
