@@ -10,10 +10,11 @@ use Rattle.molecule.specs.Renumbering.{Renumbered}
 use Rattle.molecule.specs.Judged.{WellFormed}
 use Rattle.molecule.specs.Written.{cardBytes}
 use Rattle.rules.specs.Answers.{nameOf}
+use Rattle.rules.specs.Contracts.{Result}
 use Rattle.rules.specs.Promises.{KeptBy}
 use Rattle.ctfile.specs.Filed.{sound, verdict, Drawing, drawingOf}
 use Rattle.ctfile.specs.Drawings.{folded, drawingFault}
-use Rattle.ctfile.specs.Molfiles.{mostFile, nameOfMolfile}
+use Rattle.ctfile.specs.Molfiles.{mostFile, nameOfMolfile, MolfileRun}
 
 -- none of 11 and 1 to 8 refuses the file
 pub record WellFormedFile (file : List ℕ) : Type 0 where
@@ -37,6 +38,13 @@ AlwaysSame =
     (σ : ℕ → ℕ) (file file′ : List ℕ) → WellFormedFile file → WellFormedFile file′
     → Renumbered σ (drawn (drawingOf file)) (drawn (drawingOf file′))
     → (allowance room : ℕ) → nameOfMolfile file′ allowance room ≡ nameOfMolfile file allowance room
+
+-- and so of what two calls return and leave in the lent buffer
+abbrev pub SameRuns : Type 0
+SameRuns =
+    (σ : ℕ → ℕ) (file file′ : List ℕ) → WellFormedFile file → WellFormedFile file′
+    → Renumbered σ (drawn (drawingOf file)) (drawn (drawingOf file′))
+    → (allowance : ℕ) (lent : List ℕ) (r r′ : Result) → MolfileRun file allowance lent r → MolfileRun file′ allowance lent r′ → r ≡ r′
 
 -- the same by lines: the atom lines in another order, the bond lines with the new numbers and in any order
 abbrev pub moved : (ℕ → ℕ) → Bond → Bond
