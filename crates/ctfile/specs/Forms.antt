@@ -72,14 +72,14 @@ isEntry atoms l e =
     && eqb (sizeIn (columns (entriesTo e + 5) 3 l)) 0
 
 -- "`M  CHG`, `M  RAD`, `M  ISO`"
-unfoldable pub isZeroable : List ℕ → Bool
-isZeroable l = isText "M  CHG" (take 6 l) || isText "M  RAD" (take 6 l) || isText "M  ISO" (take 6 l)
+unfoldable pub listsEntries : List ℕ → Bool
+listsEntries l = isText "M  CHG" (take 6 l) || isText "M  RAD" (take 6 l) || isText "M  ISO" (take 6 l)
 
 -- "Entries: 1 to 8 as counted [..] only blanks after the last"; "a property line [needs] 9 + 8 per entry"
 unfoldable pub isPropertyLine : (atoms : ℕ) → List ℕ → Bool
 isPropertyLine atoms l =
     let entries = numberAt 6 l in
-    isZeroable l
+    listsEntries l
     && ltb 0 entries && leb entries 8
     && leb (entriesTo entries) (length l)
     && every (each entries (isEntry atoms l))

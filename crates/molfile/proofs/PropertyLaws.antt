@@ -14,7 +14,7 @@ use Rattle.lists.specs.Tests.{every}
 use Rattle.lists.proofs.Tested.{every-true-below}
 use Rattle.lists.proofs.Steps.{every-next}
 use Rattle.ctfile.specs.Fields.{areBlank, columns, isText, sizeIn}
-use Rattle.ctfile.specs.Forms.{numberAt, isEntry, isZeroable, isPropertyLine, isEndLine}
+use Rattle.ctfile.specs.Forms.{numberAt, isEntry, listsEntries, isPropertyLine, isEndLine}
 
 -- ---- Blanks to the end of a line
 
@@ -76,24 +76,24 @@ module _ (p : ℕ → Bool) where
 -- ---- A property line
 
 module _ (l : List ℕ) where
-  pub zero-charge : isText "M  CHG" (take 6 l) ≡ true → true ≡ isZeroable l
-  unfolding isZeroable
+  pub zero-charge : isText "M  CHG" (take 6 l) ≡ true → true ≡ listsEntries l
+  unfolding listsEntries
   zero-charge e = simp e
 
-  pub zero-radical : isText "M  CHG" (take 6 l) ≡ false → isText "M  RAD" (take 6 l) ≡ true → true ≡ isZeroable l
-  unfolding isZeroable
+  pub zero-radical : isText "M  CHG" (take 6 l) ≡ false → isText "M  RAD" (take 6 l) ≡ true → true ≡ listsEntries l
+  unfolding listsEntries
   zero-radical e f = simp (e, f)
 
-  pub zero-isotope : isText "M  CHG" (take 6 l) ≡ false → isText "M  RAD" (take 6 l) ≡ false → isText "M  ISO" (take 6 l) ≡ isZeroable l
-  unfolding isZeroable
+  pub zero-isotope : isText "M  CHG" (take 6 l) ≡ false → isText "M  RAD" (take 6 l) ≡ false → isText "M  ISO" (take 6 l) ≡ listsEntries l
+  unfolding listsEntries
   zero-isotope e f = simp (e, f)
 
-pub property-other : (atoms : ℕ) (l : List ℕ) → isZeroable l ≡ false → false ≡ isPropertyLine atoms l
+pub property-other : (atoms : ℕ) (l : List ℕ) → listsEntries l ≡ false → false ≡ isPropertyLine atoms l
 unfolding isPropertyLine
 property-other atoms l z = simp z
 
 module _ (atoms : ℕ) (l : List ℕ) (n : ℕ) (e : n ≡ numberAt 6 l) where
-  module _ (z : isZeroable l ≡ true) where
+  module _ (z : listsEntries l ≡ true) where
     pub property-none : n ≡ 0 → false ≡ isPropertyLine atoms l
     unfolding isPropertyLine
     property-none q = let k : numberAt 6 l ≤ 0 = omega arith in simp (z, le-ltb _ _ k)

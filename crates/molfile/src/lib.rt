@@ -2,7 +2,7 @@
 ghost use mathlib.Core.Path.{_≡_};
 ghost use Rattle.molfile.specs.Filing.{IsFiled};
 ghost use Rattle.molfile.specs.Reading.{IsRead};
-use crate::outcome::Filed;
+use crate::outcome::Counted;
 use crate::outcome::broken_at;
 use drawing::Limits;
 use table::Table;
@@ -65,7 +65,7 @@ fn filed(
     one: &mut [u16; Limits::BONDS],
     two: &mut [u16; Limits::BONDS],
     codes: &mut [u16; Limits::BONDS],
-) -> Filed
+) -> Counted
     ensures { λ r. ⌜ IsFiled (now (file .entry)) (now (kinds .entry)) (now (one .entry)) (now (two .entry)) (now (codes .entry))
         (now (kinds .exit)) (now (one .exit)) (now (two .exit)) (now (codes .exit)) r ⌝ }
 {
@@ -89,7 +89,7 @@ fn filed(
     if end.broken {
         return broken_at(end.place);
     }
-    Filed {
+    Counted {
         broken: false,
         place: 0,
         atoms: counts.atoms,

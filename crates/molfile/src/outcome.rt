@@ -2,21 +2,13 @@
 ghost use mathlib.Core.Path.{_≡_};
 ghost use mathlib.Core.Bool.{true};
 
-// A broken file with the place of its first faulty line, or a sound one with its numbers of atoms and bonds.
-pub struct Filed {
-    pub broken: bool,
-    pub place: usize,
-    pub atoms: usize,
-    pub bonds: usize,
-}
-
 // The place of the first faulty line of a section, or, where its lines are sound, of the line that follows them.
 pub struct Passage {
     pub broken: bool,
     pub place: usize,
 }
 
-// The passage of the counts line, with the numbers of atoms and bonds on it.
+// The passage of the counts line, or of the whole file, with the numbers of atoms and bonds.
 pub struct Counted {
     pub broken: bool,
     pub place: usize,
@@ -24,10 +16,10 @@ pub struct Counted {
     pub bonds: usize,
 }
 
-pub fn broken_at(place: usize) -> Filed
+pub fn broken_at(place: usize) -> Counted
     ensures { λ r. ⌜ r ≡ record { broken = true; place = place; atoms = 0; bonds = 0 } ⌝ }
 {
-    Filed {
+    Counted {
         broken: true,
         place,
         atoms: 0,

@@ -7,7 +7,7 @@ ghost use Rattle.lists.specs.Upto.{each};
 ghost use Rattle.lists.specs.Tests.{every};
 ghost use Rattle.lists.specs.Order.{lex};
 ghost use Rattle.ctfile.specs.Fields.{areBlank};
-ghost use Rattle.ctfile.specs.Forms.{isEntry, isZeroable, isPropertyLine, isEndLine};
+ghost use Rattle.ctfile.specs.Forms.{isEntry, listsEntries, isPropertyLine, isEndLine};
 use crate::field::BLANK;
 use crate::field::column;
 use crate::field::number_at;
@@ -41,8 +41,8 @@ fn blank_behind(line: &[u8], k: usize) -> bool
     true
 }
 
-fn is_zeroable(line: &[u8]) -> bool
-    ensures { λ r. ⌜ r ≡ isZeroable (now (line .entry)) ⌝ }
+fn lists_entries(line: &[u8]) -> bool
+    ensures { λ r. ⌜ r ≡ listsEntries (now (line .entry)) ⌝ }
 {
     if begins(line, b"M  CHG") {
         return true;
@@ -91,7 +91,7 @@ fn are_entries(line: &[u8], atoms: usize, entries: usize) -> bool
 pub fn is_property_line(line: &[u8], atoms: usize) -> bool
     ensures { λ r. ⌜ r ≡ isPropertyLine atoms (now (line .entry)) ⌝ }
 {
-    if !is_zeroable(line) {
+    if !lists_entries(line) {
         return false;
     }
     let entries = wide(number_at(line, 6));

@@ -1,6 +1,4 @@
 // The sections of a file, each from the offset of its first line on. A line that is missing is refused at the file's length.
-ghost use mathlib.Core.Path.{_≡_};
-ghost use mathlib.Core.Bool.{true};
 ghost use Prim.Native.Nat.{_≤_};
 ghost use lib.ListN.{replicate};
 ghost use Rattle.ctfile.specs.Forms.{isAtomLine, isBondLine};
@@ -14,6 +12,7 @@ use crate::forms::kind_in;
 use crate::line::line_at;
 use crate::outcome::Counted;
 use crate::outcome::Passage;
+use crate::outcome::broken_at;
 use crate::properties::is_end_line;
 use crate::properties::is_property_line;
 use drawing::Limits;
@@ -43,29 +42,18 @@ pub fn header(file: &[u8]) -> Passage
     }
 }
 
-fn uncounted(place: usize) -> Counted
-    ensures { λ r. ⌜ r ≡ record { broken = true; place = place; atoms = 0; bonds = 0 } ⌝ }
-{
-    Counted {
-        broken: true,
-        place,
-        atoms: 0,
-        bonds: 0,
-    }
-}
-
 pub fn counts(file: &[u8], at: usize) -> Counted
     ensures { λ r. ⌜ IsCounted (now (file .entry)) at r ⌝ }
 {
     let n = file.len();
     if n <= at {
-        return uncounted(n);
+        return broken_at(n);
     }
     let l = line_at(file, at);
     let end = l.end;
     let line = &file[at..end];
     if !is_counts_line(line) {
-        return uncounted(at);
+        return broken_at(at);
     }
     Counted {
         broken: false,

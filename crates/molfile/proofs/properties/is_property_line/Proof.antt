@@ -6,13 +6,13 @@ use borrow.Author.Needs.{needs}
 use Rattle.molfile.proofs.properties.is_property_line.Statement.{statement}
 use Rattle.molfile.proofs.properties.is_property_line.Tie as tie
 
-is-zeroable-requires : tie.Need-is-zeroable-requires
-is-zeroable-requires c κs = search needs
+lists-entries-requires : tie.Need-lists-entries-requires
+lists-entries-requires c κs = search needs
 
 returns : tie.Need-returns
 returns c =
     let args = c .before .before .before .args in
-    property-other (args .atoms) (args .line .now) (sym (c .before .is-zeroable .ensures) ∙ not-true _ (c .if1 .taken))
+    property-other (args .atoms) (args .line .now) (sym (c .before .lists-entries .ensures) ∙ not-true _ (c .if1 .taken))
 
 number-at-requires : tie.Need-number-at-requires
 number-at-requires c κs = search needs
@@ -23,20 +23,20 @@ wide-requires c κs = search needs
 returns-2 : tie.Need-returns-2
 returns-2 c =
     let args = c .before .before .before .before .before .before .args in
-    let is-zeroable = c .before .before .before .before .is-zeroable in
+    let lists-entries = c .before .before .before .before .lists-entries in
     let if1 = c .before .before .before .if1 in
     let number-at = c .before .before .number-at in
-    property-none (args .atoms) (args .line .now) _ (c .before .wide .ensures ∙ number-at .ensures .is) (sym (is-zeroable .ensures) ∙ not-false _ (if1 .left))
+    property-none (args .atoms) (args .line .now) _ (c .before .wide .ensures ∙ number-at .ensures .is) (sym (lists-entries .ensures) ∙ not-false _ (if1 .left))
     (c .if2 .taken)
 
 returns-3 : tie.Need-returns-3
 returns-3 c =
     let args = c .before .before .before .before .before .before .before .args in
-    let is-zeroable = c .before .before .before .before .before .is-zeroable in
+    let lists-entries = c .before .before .before .before .before .lists-entries in
     let if1 = c .before .before .before .before .if1 in
     let number-at = c .before .before .before .number-at in
     let wide = c .before .before .wide in
-    property-many (args .atoms) (args .line .now) _ (wide .ensures ∙ number-at .ensures .is) (sym (is-zeroable .ensures) ∙ not-false _ (if1 .left))
+    property-many (args .atoms) (args .line .now) _ (wide .ensures ∙ number-at .ensures .is) (sym (lists-entries .ensures) ∙ not-false _ (if1 .left))
     (c .before .if2 .left) (c .if3 .taken)
 
 mul-if4 : tie.Need-mul-if4
@@ -48,12 +48,12 @@ add-if4 c = search needs
 returns-4 : tie.Need-returns-4
 returns-4 c =
     let args = c .before .before .before .before .before .before .before .before .args in
-    let is-zeroable = c .before .before .before .before .before .before .is-zeroable in
+    let lists-entries = c .before .before .before .before .before .before .lists-entries in
     let if1 = c .before .before .before .before .before .if1 in
     let number-at = c .before .before .before .before .number-at in
     let wide = c .before .before .before .wide in
     let if2 = c .before .before .if2 in
-    property-short (args .atoms) (args .line .now) _ (wide .ensures ∙ number-at .ensures .is) (sym (is-zeroable .ensures) ∙ not-false _ (if1 .left))
+    property-short (args .atoms) (args .line .now) _ (wide .ensures ∙ number-at .ensures .is) (sym (lists-entries .ensures) ∙ not-false _ (if1 .left))
     (if2 .left) (c .before .if3 .left) (c .if4 .taken)
 
 are-entries-requires : tie.Need-are-entries-requires
@@ -62,14 +62,14 @@ are-entries-requires c κs = search needs
 returns-5 : tie.Need-returns-5
 returns-5 c =
     let args = c .before .before .before .before .before .before .before .before .before .before .args in
-    let is-zeroable = c .before .before .before .before .before .before .before .before .is-zeroable in
+    let lists-entries = c .before .before .before .before .before .before .before .before .lists-entries in
     let if1 = c .before .before .before .before .before .before .before .if1 in
     let number-at = c .before .before .before .before .before .before .number-at in
     let wide = c .before .before .before .before .before .wide in
     let if2 = c .before .before .before .before .if2 in
     let if3 = c .before .before .before .if3 in
     let if4 = c .before .before .if4 in
-    property-entry (args .atoms) (args .line .now) _ (wide .ensures ∙ number-at .ensures .is) (sym (is-zeroable .ensures) ∙ not-false _ (if1 .left))
+    property-entry (args .atoms) (args .line .now) _ (wide .ensures ∙ number-at .ensures .is) (sym (lists-entries .ensures) ∙ not-false _ (if1 .left))
     (if2 .left) (if3 .left) (if4 .left) (sym (c .before .are-entries .ensures) ∙ not-true _ (c .if5 .taken))
 
 mul-blank-behind : tie.Need-mul-blank-behind
@@ -84,7 +84,7 @@ blank-behind-requires c κs = search needs
 returns-6 : tie.Need-returns-6
 returns-6 c =
     let args = c .before .before .before .before .before .before .before .before .before .before .before .args in
-    let is-zeroable = c .before .before .before .before .before .before .before .before .before .is-zeroable in
+    let lists-entries = c .before .before .before .before .before .before .before .before .before .lists-entries in
     let if1 = c .before .before .before .before .before .before .before .before .if1 in
     let number-at = c .before .before .before .before .before .before .before .number-at in
     let wide = c .before .before .before .before .before .before .wide in
@@ -93,13 +93,13 @@ returns-6 c =
     let if4 = c .before .before .before .if4 in
     let are-entries = c .before .before .are-entries in
     c .blank-behind .ensures ∙ property-rest (args .atoms) (args .line .now) _ (wide .ensures ∙ number-at .ensures .is)
-    (sym (is-zeroable .ensures) ∙ not-false _ (if1 .left)) (if2 .left) (if3 .left) (if4 .left) (sym (are-entries .ensures) ∙ not-false _ (c .before .if5 .left))
+    (sym (lists-entries .ensures) ∙ not-false _ (if1 .left)) (if2 .left) (if3 .left) (if4 .left) (sym (are-entries .ensures) ∙ not-false _ (c .before .if5 .left))
 
 pub is-property-line-spec : {M : Type 1} → statement M
 is-property-line-spec =
     tie.close
     (tie.spec
-    is-zeroable-requires
+    lists-entries-requires
     returns
     number-at-requires
     wide-requires

@@ -9,13 +9,13 @@ use borrow.Author.Needs.{needs}
 use Rattle.molfile.proofs.sections.counts.Statement.{statement}
 use Rattle.molfile.proofs.sections.counts.Tie as tie
 
-uncounted-requires : tie.Need-uncounted-requires
-uncounted-requires c κs = search needs
+broken-at-requires : tie.Need-broken-at-requires
+broken-at-requires c κs = search needs
 
 returns : tie.Need-returns
 returns c =
     let args = c .before .before .before .args in
-    subst (IsCounted (args .file .now) (args .at)) (sym (c .uncounted .ensures)) (counts-missing _ _ (c .before .if1 .taken))
+    subst (IsCounted (args .file .now) (args .at)) (sym (c .broken-at .ensures)) (counts-missing _ _ (c .before .if1 .taken))
 
 line-at-requires : tie.Need-line-at-requires
 line-at-requires c κs = search needs
@@ -32,15 +32,15 @@ part-line-end c = omega (arith, c .line-at .ensures .cut, c .line-at .ensures .w
 is-counts-line-requires : tie.Need-is-counts-line-requires
 is-counts-line-requires c κs = search needs
 
-uncounted-requires-2 : tie.Need-uncounted-requires-2
-uncounted-requires-2 c κs = search needs
+broken-at-requires-2 : tie.Need-broken-at-requires-2
+broken-at-requires-2 c κs = search needs
 
 returns-2 : tie.Need-returns-2
 returns-2 c =
     let args = c .before .before .before .before .before .before .before .args in
     let line-at = c .before .before .before .before .line-at in
     let is-counts-line = c .before .before .is-counts-line in
-    subst (IsCounted (args .file .now) (args .at)) (sym (c .uncounted2 .ensures))
+    subst (IsCounted (args .file .now) (args .at)) (sym (c .broken-at2 .ensures))
     (counts-wrong _ _ _ (line-at .ensures) (sym (is-counts-line .ensures ∙ ap isCountsLine (line-at .ensures .bytes)) ∙ not-true _ (c .before .if2 .taken)))
 
 number-at-requires : tie.Need-number-at-requires
@@ -70,14 +70,14 @@ pub counts-spec : {M : Type 1} → statement M
 counts-spec =
     tie.close
     (tie.spec
-    uncounted-requires
+    broken-at-requires
     returns
     line-at-requires
     sub-line
     part-line-start
     part-line-end
     is-counts-line-requires
-    uncounted-requires-2
+    broken-at-requires-2
     returns-2
     number-at-requires
     wide-requires

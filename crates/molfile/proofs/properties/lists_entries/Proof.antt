@@ -2,8 +2,8 @@
 use mathlib.Core.Path.{sym, _∙_}
 use Rattle.molfile.proofs.PropertyLaws.{zero-charge, zero-radical, zero-isotope}
 use borrow.Author.Needs.{needs}
-use Rattle.molfile.proofs.properties.is_zeroable.Statement.{statement}
-use Rattle.molfile.proofs.properties.is_zeroable.Tie as tie
+use Rattle.molfile.proofs.properties.lists_entries.Statement.{statement}
+use Rattle.molfile.proofs.properties.lists_entries.Tie as tie
 
 begins-requires : tie.Need-begins-requires
 begins-requires c κs = search needs
@@ -33,7 +33,7 @@ returns-3 c =
     let if2 = c .before .before .if2 in
     c .begins3 .ensures ∙ zero-isotope (args .line .now) (sym (begins .ensures) ∙ if1 .left) (sym (begins2 .ensures) ∙ if2 .left)
 
-pub is-zeroable-spec : {M : Type 1} → statement M
-is-zeroable-spec =
+pub lists-entries-spec : {M : Type 1} → statement M
+lists-entries-spec =
     tie.close
     (tie.spec begins-requires returns begins-requires-2 returns-2 begins-requires-3 returns-3)
