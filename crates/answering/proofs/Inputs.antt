@@ -7,12 +7,12 @@ use lib.Dec.{leb, ltb}
 use lib.ListN.{length}
 use borrow.Author.Tests.{leb-true}
 use Rattle.lists.proofs.Booleans.{and_both}
-use Rattle.lines.specs.Hex.{isHex}
-use Rattle.answering.specs.Requests.{isDash, isInput}
+use Rattle.lines.specs.Hex.{is_hex}
+use Rattle.answering.specs.Requests.{is_dash, is_input}
 
-pub input-hex : (f : List ℕ) → isInput f ≡ true → isDash f ≡ false → (isHex f ≡ true) × (length f ≤ 131200)
-unfolding isInput
-input-hex f e d =
-    let both = and_both (ltb 0 (length f)) (leb (length f) 131200 && isHex f) (rw d at e) in
-    let more = and_both (leb (length f) 131200) (isHex f) both.1 in
+pub input_hex : (f : List ℕ) → is_input f ≡ true → is_dash f ≡ false → (is_hex f ≡ true) × (length f ≤ 131200)
+unfolding is_input
+input_hex f e d =
+    let both = and_both (ltb 0 (length f)) (leb (length f) 131200 && is_hex f) (rw d at e) in
+    let more = and_both (leb (length f) 131200) (is_hex f) both.1 in
     (more.1, leb-true _ _ more.0)

@@ -13,40 +13,40 @@ use Rattle.answering.specs.declared.request.Op.{Op}
 use Rattle.answering.specs.declared.request.Word.{Word}
 use Rattle.answering.specs.declared.request.Word.TheVariants.{Known, Unknown}
 use Rattle.answering.specs.declared.request.Request.TheVariants.{Asks, Broken}
-use Rattle.answering.specs.Requests.{wordOf, inputField, isInput, asked, requestOf}
+use Rattle.answering.specs.Requests.{word_of, input_field, is_input, asked, request_of}
 
 module _ (line : List ℕ) where
-  pub word-broken : wordOf (field_of line) ≡ Unknown → Broken ≡ requestOf line
-  unfolding requestOf
-  word-broken e = rw e
+  pub word_broken : word_of (field_of line) ≡ Unknown → Broken ≡ request_of line
+  unfolding request_of
+  word_broken e = rw e
 
-  module _ (op : Op) (known : wordOf (field_of line) ≡ Known op) where
-    pub allowance-broken : number_of (field_of (rest_of line)) 65535 ≡ Nothing → Broken ≡ requestOf line
-    unfolding requestOf
-    allowance-broken e = rw (known, e)
+  module _ (op : Op) (known : word_of (field_of line) ≡ Known op) where
+    pub allowance_broken : number_of (field_of (rest_of line)) 65535 ≡ Nothing → Broken ≡ request_of line
+    unfolding request_of
+    allowance_broken e = rw (known, e)
 
     module _ (a : ℕ) (allowed : number_of (field_of (rest_of line)) 65535 ≡ Value a) where
-      pub room-broken : number_of (field_of (rest_of (rest_of line))) 4096 ≡ Nothing → Broken ≡ requestOf line
-      unfolding requestOf
+      pub room-broken : number_of (field_of (rest_of (rest_of line))) 4096 ≡ Nothing → Broken ≡ request_of line
+      unfolding request_of
       room-broken e = rw (known, allowed, e)
 
       module _ (r : ℕ) (lent : number_of (field_of (rest_of (rest_of line))) 4096 ≡ Value r) where
-        pub input-broken : isInput (inputField line) ≡ false → Broken ≡ requestOf line
-        unfolding requestOf
-        input-broken e = rw (known, allowed, lent, e)
+        pub input_broken : is_input (input_field line) ≡ false → Broken ≡ request_of line
+        unfolding request_of
+        input_broken e = rw (known, allowed, lent, e)
 
-        pub request-sound : isInput (inputField line) ≡ true → Asks op a r ≡ requestOf line
-        unfolding requestOf
-        request-sound e = rw (known, allowed, lent, e)
+        pub request_sound : is_input (input_field line) ≡ true → Asks op a r ≡ request_of line
+        unfolding request_of
+        request_sound e = rw (known, allowed, lent, e)
 
 -- what a request says of its room and its input
-pub request-asks : (line : List ℕ) (op : Op) (a r : ℕ) → requestOf line ≡ Asks op a r → (r ≤ 4096) × (isInput (inputField line) ≡ true)
-unfolding requestOf
-request-asks line op a r =
-    go (wordOf (field_of line)) (number_of (field_of (rest_of line)) 65535) (number_of (field_of (rest_of (rest_of line))) 4096) refl (isInput (inputField line)) refl
+pub request_asks : (line : List ℕ) (op : Op) (a r : ℕ) → request_of line ≡ Asks op a r → (r ≤ 4096) × (is_input (input_field line) ≡ true)
+unfolding request_of
+request_asks line op a r =
+    go (word_of (field_of line)) (number_of (field_of (rest_of line)) 65535) (number_of (field_of (rest_of (rest_of line))) 4096) refl (is_input (input_field line)) refl
   where
-    go : (w : Word) (m n : Number) → number_of (field_of (rest_of (rest_of line))) 4096 ≡ n → (h : Bool) → isInput (inputField line) ≡ h
-        → asked w m n h ≡ Asks op a r → (r ≤ 4096) × (isInput (inputField line) ≡ true)
+    go : (w : Word) (m n : Number) → number_of (field_of (rest_of (rest_of line))) 4096 ≡ n → (h : Bool) → is_input (input_field line) ≡ h
+        → asked w m n h ≡ Asks op a r → (r ≤ 4096) × (is_input (input_field line) ≡ true)
     go (Known o) (Value x) (Value y) e true f q = (number-most (field_of (rest_of (rest_of line))) 4096 r (e ∙ cc), f)
     go (Known o) (Value x) (Value y) e false f q = let z : ◌≡◌ {A = ℕ} 0 1 = cc in absurd (omega arith)
     go (Known o) (Value x) Nothing e h f q = let z : ◌≡◌ {A = ℕ} 0 1 = cc in absurd (omega arith)

@@ -1,10 +1,10 @@
 // A request answered, and the answer printed.
 ghost use Rattle.std.specs.Prelude.{true, ◌≡◌, ◌+◌, ◌*◌, ◌≤◌, length};
-ghost use Rattle.rules.specs.Contracts.{Allowed};
+ghost use Rattle.rules.specs.Allowed.{Allowed};
 ghost use Rattle.scallopgrid.specs.Returned.{returned};
 ghost use Rattle.lines.specs.Written.{fronted, Prints};
-ghost use Rattle.answering.specs.Answers.{answer_of, shown, line_for, answerLine, bufferAfter};
-ghost use Rattle.answering.specs.Requests.{isInput, input_of};
+ghost use Rattle.answering.specs.Answers.{answer_of, shown, line_for, answer_line, buffer_after};
+ghost use Rattle.answering.specs.Requests.{is_input, input_of};
 
 use crate::request;
 use crate::request::{Op, Request};
@@ -41,7 +41,7 @@ fn answer_request(
     input: &mut [u8],
     printed: &mut [u8],
 ) -> usize
-    requires { (room ≤ 4096) × (isInput hex.now ≡ true) × (65600 ≤ length input.old) × (8278 ≤ length printed.old) }
+    requires { (room ≤ 4096) × (is_input hex.now ≡ true) × (65600 ≤ length input.old) × (8278 ≤ length printed.old) }
     ensures { Prints (line_for (Request.Asks op allowance room) (input_of hex.now)) printed.old printed.new result × (input.new ≡ fronted (input_of hex.now) input.old) }
 {
     let n = request::read_input(hex, input);
@@ -55,7 +55,7 @@ fn answer_request(
 // The input is read into a lent buffer, since one of its own would be zeroed for every line.
 pub fn answer(line: &[u8], input: &mut [u8], printed: &mut [u8]) -> usize
     requires { (65600 ≤ length input.old) × (8278 ≤ length printed.old) }
-    ensures { Prints (answerLine line.now) printed.old printed.new result × (input.new ≡ bufferAfter line.now input.old) }
+    ensures { Prints (answer_line line.now) printed.old printed.new result × (input.new ≡ buffer_after line.now input.old) }
 {
     let Request::Asks {
         op,

@@ -1,4 +1,6 @@
 // The program `answers` over a file descriptor: for each line that asks, a line that answers.
+#![tactic(auto)]
+
 use libc::STDOUT_FILENO;
 use lines::input;
 use lines::input::Unread;

@@ -1,7 +1,7 @@
 // A line as a request.
 ghost use Rattle.std.specs.Prelude.{true, ◌≡◌, ◌≤◌, length};
 ghost use Rattle.lines.specs.Written.{Prints};
-ghost use Rattle.answering.specs.Requests.{wordOf, inputField, isInput, input_of, requestOf};
+ghost use Rattle.answering.specs.Requests.{word_of, input_field, is_input, input_of, request_of};
 
 use lines::number::Number;
 use lines::{field, hex, number};
@@ -35,7 +35,7 @@ const MOST_ROOM: u32 = 4096;
 const MOST_DIGITS: usize = 131200;
 
 fn word_of(word: &[u8]) -> Word
-    ensures { result ≡ wordOf word.now }
+    ensures { result ≡ word_of word.now }
 {
     if field::is_word(word, b"name") {
         return Word::Known(Op::Name);
@@ -56,13 +56,13 @@ fn word_of(word: &[u8]) -> Word
 }
 
 pub fn input_field(line: &[u8]) -> &[u8]
-    ensures { result.now ≡ inputField line.now }
+    ensures { result.now ≡ input_field line.now }
 {
     field::rest(field::rest(field::rest(line)))
 }
 
 fn is_input(hex: &[u8]) -> bool
-    ensures { result ≡ isInput hex.now }
+    ensures { result ≡ is_input hex.now }
 {
     if field::is_word(hex, b"-") {
         return true;
@@ -78,7 +78,7 @@ fn is_input(hex: &[u8]) -> bool
 
 // The bytes of a sound input field, at the start of a buffer; answers how many there are.
 pub fn read_input(hex: &[u8], out: &mut [u8]) -> usize
-    requires { (isInput hex.now ≡ true) × (65600 ≤ length out.old) }
+    requires { (is_input hex.now ≡ true) × (65600 ≤ length out.old) }
     ensures { Prints (input_of hex.now) out.old out.new result }
 {
     if field::is_word(hex, b"-") {
@@ -88,7 +88,7 @@ pub fn read_input(hex: &[u8], out: &mut [u8]) -> usize
 }
 
 pub fn request_of(line: &[u8]) -> Request
-    ensures { result ≡ requestOf line.now }
+    ensures { result ≡ request_of line.now }
 {
     let Word::Known(op) = word_of(field::field(line)) else {
         return Request::Broken;

@@ -1,4 +1,6 @@
 // The five functions for C: include/scallopgrid.h declares them, and says what a caller keeps.
+#![tactic(auto)]
+
 ghost use Rattle.rules.specs.Runs.{NameRun, CardRun, CanonicalRun, MarksRun};
 ghost use Rattle.ctfile.specs.Molfiles.{MolfileRun};
 ghost use Rattle.scallopgrid.specs.Returned.{returned};

@@ -11,25 +11,25 @@ use Rattle.lists.specs.Upto.{upto, each, sum}
 use Rattle.lists.specs.Tests.{keep}
 use Rattle.lists.proofs.Upto.{each-eq}
 use Rattle.lists.proofs.Sums.{sum-eq, sum-le, sum-const}
-use Rattle.lists.proofs.Steps.{each-zero, keep_append, flatten-append, flatten-next}
-use Rattle.molecule.specs.Written.{field, atomBytes, bondBytes, cardBytes}
+use Rattle.lists.proofs.Steps.{each-zero, keep_append, flatten_append, flatten_next}
+use Rattle.molecule.specs.Written.{field, atom_bytes, bond_bytes, card_bytes}
 use Rattle.lists.proofs.Upto.{length-upto}
 use Rattle.lists.proofs.Flattened.{length-pieces}
-use Rattle.table.specs.Arrays.{Arrays, Tidy, HasRow, row_in, asMolecule}
+use Rattle.table.specs.Arrays.{Arrays, Tidy, HasRow, row_in, as_molecule}
 use Rattle.table.proofs.RowLaws.{row_at}
 use Rattle.table.proofs.Views.{near-long, code-slot, neighbours-row, tidy-row}
 use Rattle.lent.specs.Written.{Written}
 use Rattle.lent.proofs.Outcomes.{too_short, written}
-use Rattle.card.specs.Writing.{atomPiece, bondPiece, slotPiece, rowBytes, rowLength, Wrote}
-use Rattle.card.proofs.Written.{wrote-more, pieces-length}
+use Rattle.card.specs.Writing.{atom_piece, bond_piece, slot_piece, row_bytes, row_length, Wrote}
+use Rattle.card.proofs.Written.{wrote_more, pieces_length}
 use Rattle.card.proofs.Lengths.{row_low, row-length}
 
 module _ (t : Arrays) (T : Tidy t) where
-  abbrev atomsIn : List ℕ
-  atomsIn = flatten (each t.n (atomPiece t.kinds t.hydrogens))
+  abbrev atoms_in : List ℕ
+  atoms_in = flatten (each t.n (atom_piece t.kinds t.hydrogens))
 
-  abbrev bondsIn : List ℕ
-  bondsIn = flatten (each t.n (rowBytes t.degrees t.near t.codes))
+  abbrev bonds_in : List ℕ
+  bonds_in = flatten (each t.n (row_bytes t.degrees t.near t.codes))
 
   module _ (a : ℕ) (h : a < t.n) where
     abbrev row : List ℕ
@@ -37,93 +37,93 @@ module _ (t : Arrays) (T : Tidy t) where
 
     -- the bytes of the bond to b
     abbrev bytes : ℕ → List ℕ
-    bytes b = a ∷ b ∷ (asMolecule t).code a b ∷ []
+    bytes b = a ∷ b ∷ (as_molecule t).code a b ∷ []
 
-    one : (x : ℕ) → flatten (map bytes (keep (ltb a) (x ∷ []))) ≡ bondPiece a x ((asMolecule t).code a x)
+    one : (x : ℕ) → flatten (map bytes (keep (ltb a) (x ∷ []))) ≡ bond_piece a x ((as_molecule t).code a x)
     unfolding keep flatten
     one x = go (ltb a x)
       where
-        go : (s : Bool) → flatten (map bytes (cond s (x ∷ []) [])) ≡ cond s (a ∷ x ∷ (asMolecule t).code a x ∷ []) []
+        go : (s : Bool) → flatten (map bytes (cond s (x ∷ []) [])) ≡ cond s (a ∷ x ∷ (as_molecule t).code a x ∷ []) []
         go true = refl
         go false = refl
 
-    so_far : (p : ℕ) → p ≤ get_or t.degrees a 0 → flatten (map bytes (keep (ltb a) (take p row))) ≡ flatten (each p (slotPiece t.near t.codes a))
+    so_far : (p : ℕ) → p ≤ get_or t.degrees a 0 → flatten (map bytes (keep (ltb a) (take p row))) ≡ flatten (each p (slot_piece t.near t.codes a))
     unfolding keep flatten
-    so_far zero l = sym (ap flatten (each-zero (slotPiece t.near t.codes a)))
+    so_far zero l = sym (ap flatten (each-zero (slot_piece t.near t.codes a)))
     so_far (suc p) l =
         ap (λ (r : List ℕ). flatten (map bytes (keep (ltb a) r))) (take-suc row p 0 (omega (arith, near-long t T a h)))
         ∙ ap (λ (r : List ℕ). flatten (map bytes r)) (keep_append (ltb a) (take p row) (get_or row p 0 ∷ []))
         ∙ ap flatten (map-append bytes (keep (ltb a) (take p row)) (keep (ltb a) (get_or row p 0 ∷ [])))
-        ∙ flatten-append (map bytes (keep (ltb a) (take p row))) (map bytes (keep (ltb a) (get_or row p 0 ∷ [])))
-        ∙ ap₂ ◌++◌ (so_far p (omega arith)) (one (get_or row p 0) ∙ ap (λ (x : ℕ). bondPiece a x ((asMolecule t).code a x)) (row_at t.degrees t.near a p l)
-        ∙ ap (bondPiece a (get_or t.near (6 * a + p) 0)) (code-slot t T a h p l))
-        ∙ sym (flatten-next p (slotPiece t.near t.codes a))
+        ∙ flatten_append (map bytes (keep (ltb a) (take p row))) (map bytes (keep (ltb a) (get_or row p 0 ∷ [])))
+        ∙ ap₂ ◌++◌ (so_far p (omega arith)) (one (get_or row p 0) ∙ ap (λ (x : ℕ). bond_piece a x ((as_molecule t).code a x)) (row_at t.degrees t.near a p l)
+        ∙ ap (bond_piece a (get_or t.near (6 * a + p) 0)) (code-slot t T a h p l))
+        ∙ sym (flatten_next p (slot_piece t.near t.codes a))
 
-    bonds-are : bondBytes (asMolecule t) a ≡ rowBytes t.degrees t.near t.codes a
-    unfolding bondBytes rowBytes
+    bonds-are : bond_bytes (as_molecule t) a ≡ row_bytes t.degrees t.near t.codes a
+    unfolding bond_bytes row_bytes
     bonds-are =
         ap (λ (r : List ℕ). flatten (map bytes (keep (ltb a) r))) (neighbours-row t T a h ∙ sym (take-length row) ∙ ap (λ (k : ℕ). take k row) (near-long t T a h))
         ∙ so_far (get_or t.degrees a 0) (omega arith)
 
-  card-is : cardBytes (asMolecule t) ≡ field 1 atomsIn ++ field 2 bondsIn
-  unfolding cardBytes atomBytes asMolecule
-  card-is = ap (λ (l : List (List ℕ)). field 1 atomsIn ++ field 2 (flatten l)) (each-eq t.n (bondBytes (asMolecule t)) (rowBytes t.degrees t.near t.codes) bonds-are)
+  card-is : card_bytes (as_molecule t) ≡ field 1 atoms_in ++ field 2 bonds_in
+  unfolding card_bytes atom_bytes as_molecule
+  card-is = ap (λ (l : List (List ℕ)). field 1 atoms_in ++ field 2 (flatten l)) (each-eq t.n (bond_bytes (as_molecule t)) (row_bytes t.degrees t.near t.codes) bonds-are)
 
-  pub atoms-long : length atomsIn ≡ 2 * t.n
+  pub atoms-long : length atoms_in ≡ 2 * t.n
   unfolding each
-  atoms-long = omega (arith, length-pieces (atomPiece t.kinds t.hydrogens) 2 (λ a. refl) (upto t.n), length-upto t.n)
+  atoms-long = omega (arith, length-pieces (atom_piece t.kinds t.hydrogens) 2 (λ a. refl) (upto t.n), length-upto t.n)
 
-  bonds-long : (b : ℕ) → b ≡ sum (each t.n (rowLength t.degrees t.near)) → b ≡ length bondsIn
+  bonds-long : (b : ℕ) → b ≡ sum (each t.n (row_length t.degrees t.near)) → b ≡ length bonds_in
   bonds-long b e =
       e
-      ∙ sum-eq t.n (rowLength t.degrees t.near) (λ a. length (rowBytes t.degrees t.near t.codes a)) (λ a h. sym (row-length t.degrees t.near t.codes a))
-      ∙ sym (pieces-length (rowBytes t.degrees t.near t.codes) t.n)
+      ∙ sum-eq t.n (row_length t.degrees t.near) (λ a. length (row_bytes t.degrees t.near t.codes a)) (λ a h. sym (row-length t.degrees t.near t.codes a))
+      ∙ sym (pieces_length (row_bytes t.degrees t.near t.codes) t.n)
 
   pub rows-there : (a : ℕ) → a < t.n → HasRow t.degrees t.near a
   rows-there a h = tidy-row t T a h
 
-  module _ (b : ℕ) (e : b ≡ sum (each t.n (rowLength t.degrees t.near))) where
+  module _ (b : ℕ) (e : b ≡ sum (each t.n (row_length t.degrees t.near))) where
     pub bonds-few : b ≤ 1152
     bonds-few =
         omega (
           arith,
           e,
           T.atoms,
-          sum-le t.n (rowLength t.degrees t.near) (λ a. 18) (λ a h. row_low t.degrees t.near a (rows-there a h)),
+          sum-le t.n (row_length t.degrees t.near) (λ a. 18) (λ a h. row_low t.degrees t.near a (rows-there a h)),
           sum-const t.n 18,
         )
 
-    pub bonds-room : length bondsIn ≡ b
+    pub bonds-room : length bonds_in ≡ b
     bonds-room = sym (bonds-long b e)
 
-    pub card-long : length (cardBytes (asMolecule t)) ≡ 2 * t.n + b + 6
+    pub card-long : length (card_bytes (as_molecule t)) ≡ 2 * t.n + b + 6
     unfolding field
-    card-long = ap length card-is ∙ length-append (field 1 atomsIn) (field 2 bondsIn) ∙ omega (arith, atoms-long, bonds-long b e)
+    card-long = ap length card-is ∙ length-append (field 1 atoms_in) (field 2 bonds_in) ∙ omega (arith, atoms-long, bonds-long b e)
 
-    pub card-short : (out : List ℕ) → length out < 2 * t.n + b + 6 → Written (cardBytes (asMolecule t)) out out (record { refusal = 10; length = 0 })
-    card-short out h = too_short (cardBytes (asMolecule t)) out (subst (λ (k : ℕ). length out < k) (sym card-long) h)
+    pub card-short : (out : List ℕ) → length out < 2 * t.n + b + 6 → Written (card_bytes (as_molecule t)) out out (record { refusal = 10; length = 0 })
+    card-short out h = too_short (card_bytes (as_molecule t)) out (subst (λ (k : ℕ). length out < k) (sym card-long) h)
 
     -- the head of a field
     abbrev head : ℕ → ℕ → List ℕ
     head tag size = tag ∷ (size / 256) ∷ (size % 256) ∷ []
 
-    joined : ((head 1 (2 * t.n) ++ atomsIn) ++ head 2 b) ++ bondsIn ≡ cardBytes (asMolecule t)
+    joined : ((head 1 (2 * t.n) ++ atoms_in) ++ head 2 b) ++ bonds_in ≡ card_bytes (as_molecule t)
     unfolding field
     joined =
-        append_assoc (head 1 (2 * t.n) ++ atomsIn) (head 2 b) bondsIn
-        ∙ ap₂ (λ (k m : ℕ). (head 1 k ++ atomsIn) ++ (head 2 m ++ bondsIn)) (sym atoms-long) (bonds-long b e) ∙ sym card-is
+        append_assoc (head 1 (2 * t.n) ++ atoms_in) (head 2 b) bonds_in
+        ∙ ap₂ (λ (k m : ℕ). (head 1 k ++ atoms_in) ++ (head 2 m ++ bonds_in)) (sym atoms-long) (bonds-long b e) ∙ sym card-is
 
-    module _ (out o₁ o₂ o₃ o₄ : List ℕ) (i₁ i₂ i₃ i₄ : ℕ) (W₁ : Wrote out 0 (head 1 (2 * t.n)) o₁ i₁) (W₂ : Wrote o₁ i₁ atomsIn o₂ i₂) (W₃ : Wrote o₂ i₂ (head 2 b) o₃ i₃)
-        (W₄ : Wrote o₃ i₃ bondsIn o₄ i₄) where
-      all : Wrote out 0 (cardBytes (asMolecule t)) o₄ i₄
+    module _ (out o₁ o₂ o₃ o₄ : List ℕ) (i₁ i₂ i₃ i₄ : ℕ) (W₁ : Wrote out 0 (head 1 (2 * t.n)) o₁ i₁) (W₂ : Wrote o₁ i₁ atoms_in o₂ i₂) (W₃ : Wrote o₂ i₂ (head 2 b) o₃ i₃)
+        (W₄ : Wrote o₃ i₃ bonds_in o₄ i₄) where
+      all : Wrote out 0 (card_bytes (as_molecule t)) o₄ i₄
       all =
           subst (λ (bs : List ℕ). Wrote out 0 bs o₄ i₄) joined
-          (wrote-more out o₃ o₄ 0 i₃ i₄ _ bondsIn (wrote-more out o₂ o₃ 0 i₂ i₃ _ (head 2 b) (wrote-more out o₁ o₂ 0 i₁ i₂ (head 1 (2 * t.n)) atomsIn W₁ W₂) W₃) W₄)
+          (wrote_more out o₃ o₄ 0 i₃ i₄ _ bonds_in (wrote_more out o₂ o₃ 0 i₂ i₃ _ (head 2 b) (wrote_more out o₁ o₂ 0 i₁ i₂ (head 1 (2 * t.n)) atoms_in W₁ W₂) W₃) W₄)
 
-      pub card-written : 2 * t.n + b + 6 ≤ length out → Written (cardBytes (asMolecule t)) out o₄ (record { refusal = 0; length = 2 * t.n + b + 6 })
+      pub card-written : 2 * t.n + b + 6 ≤ length out → Written (card_bytes (as_molecule t)) out o₄ (record { refusal = 0; length = 2 * t.n + b + 6 })
       card-written h =
-          let k : length (cardBytes (asMolecule t)) ≤ length out = subst (λ (k : ℕ). k ≤ length out) (sym card-long) h in
-          let z : 0 + length (cardBytes (asMolecule t)) ≡ length (cardBytes (asMolecule t)) = omega arith in
-          let m : 0 + length (cardBytes (asMolecule t)) ≤ length out = omega arith in
-          written (cardBytes (asMolecule t)) out _ o₄ (sym card-long) k
-          (all.is ∙ sets-eq (cardBytes (asMolecule t)) out 0 m ∙ ap (λ (k : ℕ). cardBytes (asMolecule t) ++ drop k out) z)
+          let k : length (card_bytes (as_molecule t)) ≤ length out = subst (λ (k : ℕ). k ≤ length out) (sym card-long) h in
+          let z : 0 + length (card_bytes (as_molecule t)) ≡ length (card_bytes (as_molecule t)) = omega arith in
+          let m : 0 + length (card_bytes (as_molecule t)) ≤ length out = omega arith in
+          written (card_bytes (as_molecule t)) out _ o₄ (sym card-long) k
+          (all.is ∙ sets-eq (card_bytes (as_molecule t)) out 0 m ∙ ap (λ (k : ℕ). card_bytes (as_molecule t) ++ drop k out) z)

@@ -5,36 +5,36 @@ use mathlib.Core.Path.{◌≡◌, refl, ◌∙◌, ap}
 use Prim.Native.Nat.{ℕ, zero, suc, ◌+◌, ◌-◌, ◌<◌, ◌≤◌}
 use native.Mathlib.Omega.{arith}
 use Rattle.lists.specs.Upto.{from, each}
-use Rattle.molecule.specs.Refusals.{orNext, firstFault}
+use Rattle.molecule.specs.Refusals.{or_next, first_fault}
 
 abbrev pub Rest : (ℕ → ℕ) → ℕ → ℕ → ℕ
-Rest f n k = firstFault (map f (from k (n - k)))
+Rest f n k = first_fault (map f (from k (n - k)))
 
-pub orNext-some : (m n : ℕ) → m ≢ 0 → orNext m n ≡ m
-orNext-some zero n h = absurd (h (omega arith))
-orNext-some (suc m) n h = refl
+pub or_next-some : (m n : ℕ) → m ≢ 0 → or_next m n ≡ m
+or_next-some zero n h = absurd (h (omega arith))
+or_next-some (suc m) n h = refl
 
-pub orNext-none : (m n : ℕ) → m ≡ 0 → orNext m n ≡ n
-orNext-none m n e = ap (λ (k : ℕ). orNext k n) e
+pub or_next-none : (m n : ℕ) → m ≡ 0 → or_next m n ≡ n
+or_next-none m n e = ap (λ (k : ℕ). or_next k n) e
 
 module _ (f : ℕ → ℕ) (n : ℕ) where
-  pub rest-start : firstFault (each n f) ≡ Rest f n 0
+  pub rest_start : first_fault (each n f) ≡ Rest f n 0
   unfolding each
-  rest-start = let e : n ≡ n - 0 = omega arith in ap (λ (m : ℕ). firstFault (map f (from 0 m))) e
+  rest_start = let e : n ≡ n - 0 = omega arith in ap (λ (m : ℕ). first_fault (map f (from 0 m))) e
 
-  rest-cons : (k : ℕ) → k < n → Rest f n k ≡ orNext (f k) (Rest f n (k + 1))
-  unfolding firstFault from
-  rest-cons k h =
+  rest_cons : (k : ℕ) → k < n → Rest f n k ≡ or_next (f k) (Rest f n (k + 1))
+  unfolding first_fault from
+  rest_cons k h =
       let e : n - k ≡ suc (n - (k + 1)) = omega arith in
       let g : suc k ≡ k + 1 = omega arith in
-      ap (λ (m : ℕ). firstFault (map f (from k m))) e ∙ ap (λ (j : ℕ). orNext (f k) (firstFault (map f (from j (n - (k + 1)))))) g
+      ap (λ (m : ℕ). first_fault (map f (from k m))) e ∙ ap (λ (j : ℕ). or_next (f k) (first_fault (map f (from j (n - (k + 1)))))) g
 
-  pub rest-stop : (k : ℕ) → k < n → f k ≢ 0 → Rest f n k ≡ f k
-  rest-stop k h e = rest-cons k h ∙ orNext-some (f k) (Rest f n (k + 1)) e
+  pub rest_stop : (k : ℕ) → k < n → f k ≢ 0 → Rest f n k ≡ f k
+  rest_stop k h e = rest_cons k h ∙ or_next-some (f k) (Rest f n (k + 1)) e
 
-  pub rest-next : (k : ℕ) → k < n → f k ≡ 0 → Rest f n k ≡ Rest f n (k + 1)
-  rest-next k h e = rest-cons k h ∙ orNext-none (f k) (Rest f n (k + 1)) e
+  pub rest_next : (k : ℕ) → k < n → f k ≡ 0 → Rest f n k ≡ Rest f n (k + 1)
+  rest_next k h e = rest_cons k h ∙ or_next-none (f k) (Rest f n (k + 1)) e
 
   pub rest_end : (k : ℕ) → n ≤ k → Rest f n k ≡ 0
-  unfolding firstFault from
-  rest_end k h = let e : n - k ≡ 0 = omega arith in ap (λ (m : ℕ). firstFault (map f (from k m))) e
+  unfolding first_fault from
+  rest_end k h = let e : n - k ≡ 0 = omega arith in ap (λ (m : ℕ). first_fault (map f (from k m))) e

@@ -8,29 +8,29 @@ use native.Mathlib.Omega.{arith}
 use lib.Dec.{eqb, ltb}
 use borrow.Author.Tests.{eqb-false, ltb-false}
 use Rattle.molecule.specs.Molecule.{connected}
-use Rattle.molecule.specs.Refusals.{orNext}
-use Rattle.molecule.specs.Layout.{inLayout, atomCount, bondCount}
-use Rattle.molecule.specs.Judged.{countsFault, atomsFault, totalFault, bondsFault, apartFault, contentFault, cardFault}
+use Rattle.molecule.specs.Refusals.{or_next}
+use Rattle.molecule.specs.Layout.{in_layout, atom_count, bond_count}
+use Rattle.molecule.specs.Judged.{counts_fault, atoms_fault, total_fault, bonds_fault, apart_fault, content_fault, card_fault}
 use Rattle.molecule.proofs.Sound.{Sound}
 use Rattle.molecule.proofs.Alike.{sound-along}
-use Rattle.molecule.proofs.Checked.{well-formed-sound}
+use Rattle.molecule.proofs.Checked.{well_formed-sound}
 use Rattle.table.specs.View.{view_of, TidyTable, EvenTable}
 use Rattle.card.specs.declared.CardRead.{CardRead}
 use Rattle.card.specs.Reading.{Holds, AtomsRead, BondsRead, IsRead}
-use Rattle.card.proofs.Faults.{orNext-some, orNext-none}
-use Rattle.card.proofs.Holding.{holds-all, holds-even}
+use Rattle.card.proofs.Faults.{or_next-some, or_next-none}
+use Rattle.card.proofs.Holding.{holds_all, holds_even}
 use Rattle.card.proofs.Alike.{connected-alike}
 
-orNext-assoc : (a b c : ℕ) → orNext a (orNext b c) ≡ orNext (orNext a b) c
-orNext-assoc zero b c = refl
-orNext-assoc (suc a) b c = refl
+or_next-assoc : (a b c : ℕ) → or_next a (or_next b c) ≡ or_next (or_next a b) c
+or_next-assoc zero b c = refl
+or_next-assoc (suc a) b c = refl
 
 -- the test of the counts
-abbrev pub countsTested : ℕ → ℕ → ℕ
-countsTested n m = cond (eqb n 0) 1 (cond (ltb 64 n || ltb 80 m) 4 0)
+abbrev pub counts_tested : ℕ → ℕ → ℕ
+counts_tested n m = cond (eqb n 0) 1 (cond (ltb 64 n || ltb 80 m) 4 0)
 
-pub counts-low : (n m : ℕ) → countsTested n m ≡ 0 → (0 < n) × (n ≤ 64)
-counts-low n m e = go (eqb n 0) (ltb 64 n) refl refl e
+pub counts_low : (n m : ℕ) → counts_tested n m ≡ 0 → (0 < n) × (n ≤ 64)
+counts_low n m e = go (eqb n 0) (ltb 64 n) refl refl e
   where
     go : (p q : Bool) → eqb n 0 ≡ p → ltb 64 n ≡ q → cond {A = ℕ} p 1 (cond (q || ltb 80 m) 4 0) ≡ 0 → (0 < n) × (n ≤ 64)
     go true q f g e = absurd (omega arith)
@@ -38,54 +38,54 @@ counts-low n m e = go (eqb n 0) (ltb 64 n) refl refl e
     go false false f g e = let z = eqb-false n 0 f in (omega arith, ltb-false 64 n g)
 
 module _ (s : List ℕ) where
-  refuse : (r : CardRead) (v : ℕ) → cardFault s ≡ v → v ≢ 0 → r.refusal ≡ v → IsRead s r
+  refuse : (r : CardRead) (v : ℕ) → card_fault s ≡ v → v ≢ 0 → r.refusal ≡ v → IsRead s r
   refuse r v e z q = record { refusal = q ∙ sym e; tidy = λ x. absurd (z (sym q ∙ x)); view = λ x. absurd (z (sym q ∙ x)) }
 
-  pub read-broken : inLayout s ≡ false → (r : CardRead) → r.refusal ≡ 2 → IsRead s r
-  unfolding cardFault
-  read-broken e r q = refuse r 2 (ap (λ (b : Bool). cond b (contentFault s) 2) e) (λ x. omega arith) q
+  pub read-broken : in_layout s ≡ false → (r : CardRead) → r.refusal ≡ 2 → IsRead s r
+  unfolding card_fault
+  read-broken e r q = refuse r 2 (ap (λ (b : Bool). cond b (content_fault s) 2) e) (λ x. omega arith) q
 
-  module _ (L : inLayout s ≡ true) (n m v : ℕ) (e : n ≡ atomCount s) (f : m ≡ bondCount s) (g : v ≡ countsTested n m) where
-    counts : v ≡ countsFault s
-    unfolding countsFault
-    counts = g ∙ ap₂ countsTested e f
+  module _ (L : in_layout s ≡ true) (n m v : ℕ) (e : n ≡ atom_count s) (f : m ≡ bond_count s) (g : v ≡ counts_tested n m) where
+    counts : v ≡ counts_fault s
+    unfolding counts_fault
+    counts = g ∙ ap₂ counts_tested e f
 
-    content : cardFault s ≡ orNext (countsFault s) (orNext (atomsFault s) (orNext (totalFault s) (orNext (bondsFault s) (apartFault s))))
-    unfolding cardFault contentFault
-    content = ap (λ (b : Bool). cond b (contentFault s) 2) L
+    content : card_fault s ≡ or_next (counts_fault s) (or_next (atoms_fault s) (or_next (total_fault s) (or_next (bonds_fault s) (apart_fault s))))
+    unfolding card_fault content_fault
+    content = ap (λ (b : Bool). cond b (content_fault s) 2) L
 
     pub read-counts : v ≢ 0 → (r : CardRead) → r.refusal ≡ v → IsRead s r
-    read-counts z r q = refuse r v (content ∙ orNext-some (countsFault s) _ (λ x. z (counts ∙ x)) ∙ sym counts) z q
+    read-counts z r q = refuse r v (content ∙ or_next-some (counts_fault s) _ (λ x. z (counts ∙ x)) ∙ sym counts) z q
 
     module _ (z : v ≡ 0) (a : CardRead) (A : AtomsRead s a) where
-      after-counts : cardFault s ≡ orNext a.refusal (orNext (bondsFault s) (apartFault s))
+      after-counts : card_fault s ≡ or_next a.refusal (or_next (bonds_fault s) (apart_fault s))
       after-counts =
-          content ∙ orNext-none (countsFault s) _ (sym counts ∙ z) ∙ orNext-assoc (atomsFault s) (totalFault s) (orNext (bondsFault s) (apartFault s))
-          ∙ ap (λ (w : ℕ). orNext w (orNext (bondsFault s) (apartFault s))) (sym A.refusal)
+          content ∙ or_next-none (counts_fault s) _ (sym counts ∙ z) ∙ or_next-assoc (atoms_fault s) (total_fault s) (or_next (bonds_fault s) (apart_fault s))
+          ∙ ap (λ (w : ℕ). or_next w (or_next (bonds_fault s) (apart_fault s))) (sym A.refusal)
 
       pub read-atomic : a.refusal ≢ 0 → IsRead s a
-      read-atomic y = refuse a a.refusal (after-counts ∙ orNext-some a.refusal _ y) y refl
+      read-atomic y = refuse a a.refusal (after-counts ∙ or_next-some a.refusal _ y) y refl
 
       module _ (y : a.refusal ≡ 0) (b : CardRead) (B : BondsRead s b) where
-        after-atoms : cardFault s ≡ orNext b.refusal (apartFault s)
-        after-atoms = after-counts ∙ orNext-none a.refusal _ y ∙ ap (λ (w : ℕ). orNext w (apartFault s)) (sym B.refusal)
+        after-atoms : card_fault s ≡ or_next b.refusal (apart_fault s)
+        after-atoms = after-counts ∙ or_next-none a.refusal _ y ∙ ap (λ (w : ℕ). or_next w (apart_fault s)) (sym B.refusal)
 
         pub read-bonded : b.refusal ≢ 0 → IsRead s b
-        read-bonded x = refuse b b.refusal (after-atoms ∙ orNext-some b.refusal _ x) x refl
+        read-bonded x = refuse b b.refusal (after-atoms ∙ or_next-some b.refusal _ x) x refl
 
         module _ (x : b.refusal ≡ 0) where
-          holds : Holds s (atomCount s) (bondCount s) b.table
+          holds : Holds s (atom_count s) (bond_count s) b.table
           holds = B.table x
 
-          after-bonds : cardFault s ≡ apartFault s
-          after-bonds = after-atoms ∙ orNext-none b.refusal _ x
+          after-bonds : card_fault s ≡ apart_fault s
+          after-bonds = after-atoms ∙ or_next-none b.refusal _ x
 
           pub read-ready : TidyTable b.table × EvenTable b.table × (0 < b.table.n)
-          read-ready = (holds.tidy, holds-even s b.table holds, omega (arith, holds.size, e, counts-low n m (sym g ∙ z)))
+          read-ready = (holds.tidy, holds_even s b.table holds, omega (arith, holds.size, e, counts_low n m (sym g ∙ z)))
 
-          apart : (p : Bool) → p ≡ connected (view_of b.table) → apartFault s ≡ cond p 0 8
-          unfolding apartFault
-          apart p q = ap (λ (t : Bool). cond {A = ℕ} t 0 8) (connected-alike (holds-all s b.table holds) ∙ sym q)
+          apart : (p : Bool) → p ≡ connected (view_of b.table) → apart_fault s ≡ cond p 0 8
+          unfolding apart_fault
+          apart p q = ap (λ (t : Bool). cond {A = ℕ} t 0 8) (connected-alike (holds_all s b.table holds) ∙ sym q)
 
           pub read-apart : (p : Bool) → p ≡ connected (view_of b.table) → p ≡ false → (r : CardRead) → r.refusal ≡ 8 → IsRead s r
           read-apart p q h r k = refuse r 8 (after-bonds ∙ apart p q ∙ ap (λ (t : Bool). cond {A = ℕ} t 0 8) h) (λ w. omega arith) k
@@ -94,9 +94,9 @@ module _ (s : List ℕ) where
           read_whole p q h = record {
             refusal = x ∙ sym (after-bonds ∙ apart p q ∙ ap (λ (t : Bool). cond {A = ℕ} t 0 8) h);
             tidy = λ w. holds.tidy;
-            view = λ w. holds-all s b.table holds;
+            view = λ w. holds_all s b.table holds;
           }
 
 -- the table of a card that was read is sound
 pub read-sound : (s : List ℕ) (r : CardRead) → IsRead s r → r.refusal ≡ 0 → Sound (view_of r.table)
-read-sound s r R e = sound-along (R.view e) (well-formed-sound s (sym R.refusal ∙ e))
+read-sound s r R e = sound-along (R.view e) (well_formed-sound s (sym R.refusal ∙ e))

@@ -4,9 +4,9 @@ use Rattle.lists.specs.Tests.{count, some}
 use Rattle.molecule.specs.Bonds.{on, joins, code_in}
 use Rattle.molecule.specs.Molecule.{neighbours}
 use Rattle.molecule.specs.Renumbering.{Renumbered}
-use Rattle.molecule.specs.Refusals.{orNext}
-use Rattle.molecule.specs.Layout.{atomCount, kind_at, hydrogensAt, bondCount, bondsTo}
-use Rattle.molecule.specs.Judged.{moleculeOf, atomsFault, totalFault, bondsFault, cardFault}
+use Rattle.molecule.specs.Refusals.{or_next}
+use Rattle.molecule.specs.Layout.{atom_count, kind_at, hydrogens_at, bond_count, bonds_to}
+use Rattle.molecule.specs.Judged.{molecule_of, atoms_fault, total_fault, bonds_fault, card_fault}
 use Rattle.table.specs.declared.Table.{Table}
 use Rattle.table.specs.View.{view_of, TidyTable}
 use Rattle.card.specs.declared.CardRead.{CardRead}
@@ -15,20 +15,20 @@ use Rattle.card.specs.declared.CardRead.{CardRead}
 pub record Holds (s : List ℕ) (atoms k : ℕ) (t : Table) : Type 0 where
   pub tidy : TidyTable t
   pub size : t.n ≡ atoms
-  pub label : (a : ℕ) → a < atoms → (view_of t).label a ≡ kind_at s a ∷ hydrogensAt s a ∷ []
-  pub code : (x y : ℕ) → x < atoms → y < atoms → (view_of t).code x y ≡ code_in (bondsTo s k) x y
-  pub degree : (x : ℕ) → x < atoms → length (neighbours (view_of t) x) ≡ count (map (on x) (bondsTo s k))
-  pub paired : (x y : ℕ) → some (map (joins x y) (bondsTo s k)) ≡ not (eqb (code_in (bondsTo s k) x y) 0)
+  pub label : (a : ℕ) → a < atoms → (view_of t).label a ≡ kind_at s a ∷ hydrogens_at s a ∷ []
+  pub code : (x y : ℕ) → x < atoms → y < atoms → (view_of t).code x y ≡ code_in (bonds_to s k) x y
+  pub degree : (x : ℕ) → x < atoms → length (neighbours (view_of t) x) ≡ count (map (on x) (bonds_to s k))
+  pub paired : (x y : ℕ) → some (map (joins x y) (bonds_to s k)) ≡ not (eqb (code_in (bonds_to s k) x y) 0)
 
 pub record AtomsRead (s : List ℕ) (r : CardRead) : Type 0 where
-  pub refusal : r.refusal ≡ orNext (atomsFault s) (totalFault s)
-  pub table : r.refusal ≡ 0 → Holds s (atomCount s) 0 r.table
+  pub refusal : r.refusal ≡ or_next (atoms_fault s) (total_fault s)
+  pub table : r.refusal ≡ 0 → Holds s (atom_count s) 0 r.table
 
 pub record BondsRead (s : List ℕ) (r : CardRead) : Type 0 where
-  pub refusal : r.refusal ≡ bondsFault s
-  pub table : r.refusal ≡ 0 → Holds s (atomCount s) (bondCount s) r.table
+  pub refusal : r.refusal ≡ bonds_fault s
+  pub table : r.refusal ≡ 0 → Holds s (atom_count s) (bond_count s) r.table
 
 pub record IsRead (s : List ℕ) (r : CardRead) : Type 0 where
-  pub refusal : r.refusal ≡ cardFault s
+  pub refusal : r.refusal ≡ card_fault s
   pub tidy : r.refusal ≡ 0 → TidyTable r.table
-  pub view : r.refusal ≡ 0 → Renumbered (λ a. a) (moleculeOf s) (view_of r.table)
+  pub view : r.refusal ≡ 0 → Renumbered (λ a. a) (molecule_of s) (view_of r.table)

@@ -1,7 +1,7 @@
 // The atoms of a card.
 ghost use Rattle.std.specs.Prelude.{◌≡◌, true, ◌≤◌};
-ghost use Rattle.molecule.specs.Layout.{inLayout, atomCount};
-ghost use Rattle.card.specs.Tests.{atomTested};
+ghost use Rattle.molecule.specs.Layout.{in_layout, atom_count};
+ghost use Rattle.card.specs.Tests.{atom_tested};
 ghost use Rattle.card.specs.Reading.{AtomsRead};
 
 use super::{CardRead, refused, wide};
@@ -9,7 +9,7 @@ use table::Table;
 
 // 3 for its kind, then 4 for its hydrogens.
 fn atom_fault(kind: u8, hydrogens: u8) -> u8
-    ensures { result ≡ atomTested kind hydrogens }
+    ensures { result ≡ atom_tested kind hydrogens }
 {
     if kind == 0 {
         return 3;
@@ -25,7 +25,7 @@ fn atom_fault(kind: u8, hydrogens: u8) -> u8
 
 // The atoms in order, then the total of their hydrogens. The table is changed in place.
 pub fn read_atoms(card: &[u8], n: usize) -> CardRead
-    requires { (inLayout card.now ≡ true) × (n ≡ atomCount card.now) × (n ≤ 64) }
+    requires { (in_layout card.now ≡ true) × (n ≡ atom_count card.now) × (n ≤ 64) }
     ensures { AtomsRead card.now result }
 {
     let mut t = Table::empty();

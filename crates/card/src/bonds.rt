@@ -1,9 +1,9 @@
 // The bonds of a card.
 ghost use Rattle.std.specs.Prelude.{◌≡◌, true, ℕ, ◌<◌, ◌≤◌};
-ghost use Rattle.molecule.specs.Layout.{inLayout, atomCount, bondCount};
+ghost use Rattle.molecule.specs.Layout.{in_layout, atom_count, bond_count};
 ghost use Rattle.table.specs.Arrays.{HasRow};
-ghost use Rattle.table.specs.Changes.{bondOf};
-ghost use Rattle.card.specs.Tests.{bondTested};
+ghost use Rattle.table.specs.Changes.{bond_of};
+ghost use Rattle.card.specs.Tests.{bond_tested};
 ghost use Rattle.card.specs.Reading.{Holds, BondsRead};
 
 use super::{CardRead, refused, wide};
@@ -20,7 +20,7 @@ pub fn bond_fault<'a>(
     code: u8,
 ) -> u8
     requires { (x : ℕ) → x < n → HasRow degrees.now near.now x }
-    ensures { result ≡ bondTested n degrees.now near.now codes.now (bondOf a.0 b.0 code) }
+    ensures { result ≡ bond_tested n degrees.now near.now codes.now (bond_of a.0 b.0 code) }
 {
     let i = a.0 as usize;
     let j = b.0 as usize;
@@ -53,7 +53,7 @@ pub fn bond_fault<'a>(
 
 // The bonds in order, each put into the rows in place; the table is made once, at the end.
 pub fn read_bonds(card: &[u8], bare: Table, m: usize) -> CardRead
-    requires { (inLayout card.now ≡ true) × (m ≡ bondCount card.now) × Holds card.now (atomCount card.now) 0 bare }
+    requires { (in_layout card.now ≡ true) × (m ≡ bond_count card.now) × Holds card.now (atom_count card.now) 0 bare }
     ensures { BondsRead card.now result }
 {
     let n = bare.n;

@@ -1,8 +1,10 @@
 // Cards: any bytes to a table or a refusal, and a table to the bytes of its card.
+#![tactic(auto)]
+
 ghost use Rattle.std.specs.Prelude.{◌≡◌, ℕ, ◌<◌, ◌≤◌};
 ghost use Rattle.lent.specs.Written.{Written};
 ghost use Rattle.molecule.specs.Molecule.{kind};
-ghost use Rattle.molecule.specs.Written.{cardBytes};
+ghost use Rattle.molecule.specs.Written.{card_bytes};
 ghost use Rattle.table.specs.View.{view_of, TidyTable};
 ghost use Rattle.card.specs.Reading.{IsRead};
 
@@ -67,7 +69,7 @@ pub fn read(card: &[u8]) -> CardRead
 // Writes the card of a table: each bond with its lower atom first, bonds ascending. Its length is known before a byte is written.
 pub fn write(t: Table, out: &mut [u8]) -> Output
     requires { TidyTable t × ((a : ℕ) → a < (view_of t).size → kind (view_of t) a ≤ 24) }
-    ensures { Written (cardBytes (view_of t)) out.old out.new result }
+    ensures { Written (card_bytes (view_of t)) out.old out.new result }
 {
     let n = t.n;
     let bonds = writing::bonds_length(n, &t.degrees, &t.near);

@@ -3,7 +3,7 @@ ghost use Rattle.std.specs.Prelude.{◌≡◌, cond, ℕ, ◌+◌, ◌*◌, ◌/
 ghost use mathlib.Core.List.{[], ◌∷◌, flatten};
 ghost use Rattle.lists.specs.Upto.{each, sum};
 ghost use Rattle.table.specs.Arrays.{HasRow};
-ghost use Rattle.card.specs.Writing.{atomPiece, bondPiece, rowBytes, rowLength, Wrote};
+ghost use Rattle.card.specs.Writing.{atom_piece, bond_piece, row_bytes, row_length, Wrote};
 
 use super::wide;
 use table::{AtomNo, Table};
@@ -35,7 +35,7 @@ pub fn write_atoms<'a>(
     hydrogens: &'a [u8; Table::MAX_ATOMS],
 ) -> usize
     requires { (at + 2 * n ≤ length out.old) × (n ≤ 64) × ((a : ℕ) → a < n → get_or kinds.now a 0 ≤ 24) }
-    ensures { Wrote out.old at (flatten (each n (atomPiece kinds.now hydrogens.now))) out.new result }
+    ensures { Wrote out.old at (flatten (each n (atom_piece kinds.now hydrogens.now))) out.new result }
 {
     let mut a: usize = 0;
     while a < n {
@@ -49,8 +49,8 @@ pub fn write_atoms<'a>(
 
 // Three bytes for a bond, unless its other atom comes first and has written it.
 fn write_bond(out: &mut [u8], at: usize, a: AtomNo, b: AtomNo, code: u8) -> usize
-    requires { at + length (bondPiece a.0 b.0 code) ≤ length out.old }
-    ensures { Wrote out.old at (bondPiece a.0 b.0 code) out.new result }
+    requires { at + length (bond_piece a.0 b.0 code) ≤ length out.old }
+    ensures { Wrote out.old at (bond_piece a.0 b.0 code) out.new result }
 {
     if b.0 <= a.0 {
         return at;
@@ -70,8 +70,8 @@ fn write_row<'a>(
     codes: &'a [u8; Table::SLOTS],
     a: AtomNo,
 ) -> usize
-    requires { HasRow degrees.now near.now a.0 × (at + length (rowBytes degrees.now near.now codes.now a.0) ≤ length out.old) }
-    ensures { Wrote out.old at (rowBytes degrees.now near.now codes.now a.0) out.new result }
+    requires { HasRow degrees.now near.now a.0 × (at + length (row_bytes degrees.now near.now codes.now a.0) ≤ length out.old) }
+    ensures { Wrote out.old at (row_bytes degrees.now near.now codes.now a.0) out.new result }
 {
     let i = a.0 as usize;
     let d = wide(degrees[i]);
@@ -94,8 +94,8 @@ pub fn write_bonds<'a>(
     near: &'a [u8; Table::SLOTS],
     codes: &'a [u8; Table::SLOTS],
 ) -> usize
-    requires { ((a : ℕ) → a < n → HasRow degrees.now near.now a) × (at + length (flatten (each n (rowBytes degrees.now near.now codes.now))) ≤ length out.old) }
-    ensures { Wrote out.old at (flatten (each n (rowBytes degrees.now near.now codes.now))) out.new result }
+    requires { ((a : ℕ) → a < n → HasRow degrees.now near.now a) × (at + length (flatten (each n (row_bytes degrees.now near.now codes.now))) ≤ length out.old) }
+    ensures { Wrote out.old at (flatten (each n (row_bytes degrees.now near.now codes.now))) out.new result }
 {
     let mut to = at;
     let mut a: usize = 0;
@@ -121,7 +121,7 @@ fn row_length<'a>(
     a: AtomNo,
 ) -> usize
     requires { HasRow degrees.now near.now a.0 }
-    ensures { result ≡ rowLength degrees.now near.now a.0 }
+    ensures { result ≡ row_length degrees.now near.now a.0 }
 {
     let i = a.0 as usize;
     let d = wide(degrees[i]);
@@ -141,7 +141,7 @@ pub fn bonds_length<'a>(
     near: &'a [u8; Table::SLOTS],
 ) -> usize
     requires { (n ≤ 64) × ((a : ℕ) → a < n → HasRow degrees.now near.now a) }
-    ensures { result ≡ sum (each n (rowLength degrees.now near.now)) }
+    ensures { result ≡ sum (each n (row_length degrees.now near.now)) }
 {
     let mut bytes: usize = 0;
     let mut a: usize = 0;

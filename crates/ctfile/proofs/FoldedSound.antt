@@ -13,25 +13,25 @@ use Rattle.lists.specs.Upto.{upto, each, sum}
 use Rattle.lists.specs.Tests.{keep, count}
 use Rattle.lists.proofs.Booleans.{and_both}
 use Rattle.lists.proofs.Counts.{count-le}
-use Rattle.lists.proofs.Kept.{of-keep}
+use Rattle.lists.proofs.Kept.{of_keep}
 use Rattle.lists.proofs.Passed.{length-keep, count-keep}
-use Rattle.lists.proofs.Sums.{sum-le, sum-keep-le}
-use Rattle.lists.proofs.Upto.{each-getD}
+use Rattle.lists.proofs.Sums.{sum-le, sum-keep_le}
+use Rattle.lists.proofs.Upto.{each-get_or}
 use Rattle.molecule.specs.Bonds.{Bond, on, code_in}
 use Rattle.molecule.specs.Molecule.{neighbours}
 use Rattle.molecule.proofs.Sound.{Sound}
 use Rattle.molecule.proofs.Neighbours.{length-neighbours}
 use Rattle.molecule.proofs.Connected.{connected-linked}
-use Rattle.molecule.proofs.BondLists.{codeIn-swap, codeIn-le, codeIn-self, codeIn-keep, coded-few, sum-on}
+use Rattle.molecule.proofs.BondLists.{code_in-swap, code_in-le, code_in-self, code_in-keep, coded-few, sum-on}
 use Rattle.sling.specs.Reading as text
 use Rattle.sling.specs.Folded as fold
-use Rattle.sling.specs.Folded.{heavyPlaces}
+use Rattle.sling.specs.Folded.{heavy_places}
 use Rattle.ctfile.specs.Filed.{Drawing}
-use Rattle.ctfile.specs.Drawings.{isH, toH, asRead, folded, drawingFault}
+use Rattle.ctfile.specs.Drawings.{is_h, to_h, as_read, folded, drawing_fault}
 use Rattle.ctfile.proofs.Clean.{Clean}
 use Rattle.ctfile.proofs.Judging.{checks}
-use Rattle.ctfile.proofs.Checked.{clean, toH-ends}
-use Rattle.ctfile.proofs.AsText.{kind-there, h-there}
+use Rattle.ctfile.proofs.Checked.{clean, to_h-ends}
+use Rattle.ctfile.proofs.AsText.{kind-there, h_there}
 use Rattle.ctfile.proofs.HeavyPlaces.{places, place, place-there, folded-size}
 
 module _ (d : Drawing) (C : Clean d) where
@@ -39,27 +39,27 @@ module _ (d : Drawing) (C : Clean d) where
   n = length d.kinds
 
   abbrev heavy : ℕ → Bool
-  heavy p = not (text.isH (asRead d) p)
+  heavy p = not (text.is_h (as_read d) p)
 
   -- the bonds without an H at an end
   abbrev rest : List Bond
-  rest = keep (λ b. not (toH d b)) d.bonds
+  rest = keep (λ b. not (to_h d b)) d.bonds
 
   abbrev near : ℕ → ℕ → Bool
   near p q = not (eqb (code_in d.bonds p q) 0)
 
   -- between two that are no H, the bonds to H do not count
-  code-rest : (p q : ℕ) → isH d p ≡ false → isH d q ≡ false → code_in d.bonds p q ≡ code_in rest p q
-  code-rest p q e f = codeIn-keep (λ b. not (toH d b)) p q d.bonds (λ b m j. rw (toH-ends d p q b j, e, f))
+  code-rest : (p q : ℕ) → is_h d p ≡ false → is_h d q ≡ false → code_in d.bonds p q ≡ code_in rest p q
+  code-rest p q e f = code_in-keep (λ b. not (to_h d b)) p q d.bonds (λ b m j. rw (to_h-ends d p q b j, e, f))
 
   -- an atom has no more neighbours than bonds without an H
   degree : (a : ℕ) → a < (folded d).size → length (neighbours (folded d) a) ≤ count (map (on (place d a)) rest)
-  unfolding folded fold.folded heavyPlaces each
+  unfolding folded fold.folded heavy_places each
   degree a h =
       omega (
         arith,
         length-neighbours (folded d) a,
-        ap count (each-getD (near (place d a)) (places d) 0),
+        ap count (each-get_or (near (place d a)) (places d) 0),
         count-keep heavy (near (place d a)) (upto n),
         count-le n (λ q. heavy q && near (place d a) q) (λ q. not (eqb (code_in rest (place d a) q) 0)) passes,
         coded-few rest n (place d a),
@@ -68,23 +68,23 @@ module _ (d : Drawing) (C : Clean d) where
       passes : (q : ℕ) → q < n → (heavy q && near (place d a) q) ≡ true → not (eqb (code_in rest (place d a) q) 0) ≡ true
       passes q l e =
           let w = and_both (heavy q) (near (place d a) q) e in
-          rw (← (code-rest (place d a) q (place-there d a h).1 (sym (h-there d q l) ∙ not-true _ w.0))) w.1
+          rw (← (code-rest (place d a) q (place-there d a h).1 (sym (h_there d q l) ∙ not-true _ w.0))) w.1
 
   -- and all atoms together no more than two for each
   degrees : sum (each (folded d).size (λ a. length (neighbours (folded d) a))) ≤ 160
-  unfolding folded fold.folded heavyPlaces each
+  unfolding folded fold.folded heavy_places each
   degrees =
       omega (
         arith,
         sum-le (folded d).size (λ a. length (neighbours (folded d) a)) (λ a. count (map (on (place d a)) rest)) degree,
-        ap sum (each-getD (λ p. count (map (on p) rest)) (places d) 0),
-        sum-keep-le (λ p. count (map (on p) rest)) heavy (upto n),
-        sum-on n rest (λ b m. let i = (of-keep (λ b. not (toH d b)) d.bonds b m).0 in ((C.ends b i).0, (C.ends b i).1, C.apart b i)),
-        length-keep (λ b. not (toH d b)) d.bonds,
+        ap sum (each-get_or (λ p. count (map (on p) rest)) (places d) 0),
+        sum-keep_le (λ p. count (map (on p) rest)) heavy (upto n),
+        sum-on n rest (λ b m. let i = (of_keep (λ b. not (to_h d b)) d.bonds b m).0 in ((C.ends b i).0, (C.ends b i).1, C.apart b i)),
+        length-keep (λ b. not (to_h d b)) d.bonds,
         C.bonds,
       )
 
-pub folded-sound : (d : Drawing) → drawingFault d ≡ 0 → Sound (folded d)
+pub folded-sound : (d : Drawing) → drawing_fault d ≡ 0 → Sound (folded d)
 unfolding folded fold.folded
 folded-sound d e =
     let C = clean d e in
@@ -100,10 +100,10 @@ folded-sound d e =
       known = λ a h. let i = (place-there d a h).0 in omega (arith, kind-there d (place d a) i, C.known (place d a) i);
       few = K.few;
       hydrogens = K.total;
-      codes = λ a b h k. codeIn-le d.bonds (place d a) (place d b) 4 (λ c m. (C.coded c m).1);
-      apart = λ a h. codeIn-self d.bonds (place d a) C.apart;
-      even = λ a b h k. codeIn-swap d.bonds (place d a) (place d b);
+      codes = λ a b h k. code_in-le d.bonds (place d a) (place d b) 4 (λ c m. (C.coded c m).1);
+      apart = λ a h. code_in-self d.bonds (place d a) C.apart;
+      even = λ a b h k. code_in-swap d.bonds (place d a) (place d b);
       degrees = λ a h. omega (arith, degree d C a h, C.six (place d a));
       bonds = degrees d C;
-      linked = connected-linked (folded d) (λ a b h k. codeIn-swap d.bonds (place d a) (place d b)) K.connected;
+      linked = connected-linked (folded d) (λ a b h k. code_in-swap d.bonds (place d a) (place d b)) K.connected;
     }

@@ -16,51 +16,51 @@ use Rattle.lists.proofs.Passed.{count-keep}
 use Rattle.lists.proofs.All.{map-all}
 use Rattle.lists.proofs.Tested.{some_one}
 use Rattle.molecule.specs.Bonds.{Bond, on, joins, code_in}
-use Rattle.sling.specs.Reading.{State, toH, hydrogensOn}
+use Rattle.sling.specs.Reading.{State, to_h, hydrogens_on}
 use Rattle.sling.specs.Reading as reader
 use Rattle.sling.proofs.Tidy.{Proper}
 use Rattle.sling.proofs.Folds.{code-joined}
 use Rattle.ctfile.specs.Filed.{Drawing}
-use Rattle.ctfile.specs.Drawings.{isH, asRead}
+use Rattle.ctfile.specs.Drawings.{is_h, as_read}
 use Rattle.ctfile.proofs.Clean.{Clean}
-use Rattle.ctfile.proofs.AsText.{h-there, bonds-proper}
+use Rattle.ctfile.proofs.AsText.{h_there, bonds-proper}
 
 -- the H that a bond joins with a place that is none
-h-end : (st : State) (p : ℕ) → reader.isH st p ≡ false → (b : Bond) → Proper st.kinds b
-    → count (each (length st.kinds) (λ q. reader.isH st q && joins p q b)) ≡ cond (on p b && toH st b) 1 0
-h-end st p h b g = pick (eqb b.one p) (eqb b.two p) refl refl
+h_end : (st : State) (p : ℕ) → reader.is_h st p ≡ false → (b : Bond) → Proper st.kinds b
+    → count (each (length st.kinds) (λ q. reader.is_h st q && joins p q b)) ≡ cond (on p b && to_h st b) 1 0
+h_end st p h b g = pick (eqb b.one p) (eqb b.two p) refl refl
   where
     pick : (x y : Bool) → eqb b.one p ≡ x → eqb b.two p ≡ y
-        → count (each (length st.kinds) (λ q. reader.isH st q && joins p q b)) ≡ cond (on p b && toH st b) 1 0
+        → count (each (length st.kinds) (λ q. reader.is_h st q && joins p q b)) ≡ cond (on p b && to_h st b) 1 0
     pick true true e f = absurd (g.apart (eqb-true _ _ e ∙ sym (eqb-true _ _ f)))
     pick true false e f =
-        let z : reader.isH st b.one ≡ false = rw (eqb-true b.one p e) h in
-        simp (e, f, z, and-false, or-false) (count-pick (length st.kinds) b.two (reader.isH st) g.two)
+        let z : reader.is_h st b.one ≡ false = rw (eqb-true b.one p e) h in
+        simp (e, f, z, and-false, or-false) (count-pick (length st.kinds) b.two (reader.is_h st) g.two)
     pick false true e f =
-        let z : reader.isH st b.two ≡ false = rw (eqb-true b.two p f) h in
-        simp (e, f, z, and-true, or-false) (count-pick (length st.kinds) b.one (reader.isH st) g.one)
+        let z : reader.is_h st b.two ≡ false = rw (eqb-true b.two p f) h in
+        simp (e, f, z, and-true, or-false) (count-pick (length st.kinds) b.one (reader.is_h st) g.one)
     pick false false e f = simp (e, f, and-false) (count_none (length st.kinds) (λ q. false) (λ q l. refl))
 
 module _ (d : Drawing) (C : Clean d) (p : ℕ) where
   -- the bonds to an H, and the H that have a code with p
-  by-places : reader.isH (asRead d) p ≡ false
-      → count (map (λ q. not (eqb (code_in d.bonds p q) 0)) (keep (reader.isH (asRead d)) (upto (length d.kinds)))) ≡ hydrogensOn (asRead d) p
+  by_places : reader.is_h (as_read d) p ≡ false
+      → count (map (λ q. not (eqb (code_in d.bonds p q) 0)) (keep (reader.is_h (as_read d)) (upto (length d.kinds)))) ≡ hydrogens_on (as_read d) p
   unfolding each
-  by-places h =
-      let hs = keep (reader.isH (asRead d)) (upto (length d.kinds)) in
+  by_places h =
+      let hs = keep (reader.is_h (as_read d)) (upto (length d.kinds)) in
       count-sum (λ q. not (eqb (code_in d.bonds p q) 0)) hs
       ∙ ap sum (map-eq hs _ (λ q. count (map (joins p q) d.bonds))
       (λ q m. ap (λ (x : Bool). cond {A = ℕ} x 1 0) (code-joined d.kinds p q d.bonds (bonds-proper d C)) ∙ some_one _ (C.once p q)))
       ∙ sum-swap (joins p) hs d.bonds
-      ∙ ap sum (map-all _ (λ b. cond (on p b && toH (asRead d) b) 1 0)
-      (λ b g. count-keep (reader.isH (asRead d)) (λ q. joins p q b) (upto (length d.kinds)) ∙ h-end (asRead d) p h b g) d.bonds (bonds-proper d C))
-      ∙ sym (count-sum (λ b. on p b && toH (asRead d) b) d.bonds)
+      ∙ ap sum (map-all _ (λ b. cond (on p b && to_h (as_read d) b) 1 0)
+      (λ b g. count-keep (reader.is_h (as_read d)) (λ q. joins p q b) (upto (length d.kinds)) ∙ h_end (as_read d) p h b g) d.bonds (bonds-proper d C))
+      ∙ sym (count-sum (λ b. on p b && to_h (as_read d) b) d.bonds)
 
-  pub hydrogens-by-code : p < length d.kinds → isH d p ≡ false
-      → hydrogensOn (asRead d) p ≡ count (each (length d.kinds) (λ q. isH d q && not (eqb (code_in d.bonds p q) 0)))
+  pub hydrogens-by_code : p < length d.kinds → is_h d p ≡ false
+      → hydrogens_on (as_read d) p ≡ count (each (length d.kinds) (λ q. is_h d q && not (eqb (code_in d.bonds p q) 0)))
   unfolding each
-  hydrogens-by-code l h =
-      sym (by-places (h-there d p l ∙ h))
-      ∙ count-keep (reader.isH (asRead d)) (λ q. not (eqb (code_in d.bonds p q) 0)) (upto (length d.kinds))
-      ∙ count-eq (length d.kinds) _ (λ q. isH d q && not (eqb (code_in d.bonds p q) 0))
-      (λ q k. ap (λ (x : Bool). x && not (eqb (code_in d.bonds p q) 0)) (h-there d q k))
+  hydrogens-by_code l h =
+      sym (by_places (h_there d p l ∙ h))
+      ∙ count-keep (reader.is_h (as_read d)) (λ q. not (eqb (code_in d.bonds p q) 0)) (upto (length d.kinds))
+      ∙ count-eq (length d.kinds) _ (λ q. is_h d q && not (eqb (code_in d.bonds p q) 0))
+      (λ q k. ap (λ (x : Bool). x && not (eqb (code_in d.bonds p q) 0)) (h_there d q k))

@@ -26,10 +26,10 @@ module _ (p q : ℕ) where
   abbrev share : Bond → ℕ
   share b = cond (joins p q b) b.code 0
 
-  no-share : (bs : List Bond) → count (map (joins p q) bs) ≡ 0 → sum (map share bs) ≡ 0
+  no_share : (bs : List Bond) → count (map (joins p q) bs) ≡ 0 → sum (map share bs) ≡ 0
   unfolding sum
-  no-share [] h = refl
-  no-share (b ∷ bs) h = pick (joins p q b) h (no-share bs)
+  no_share [] h = refl
+  no_share (b ∷ bs) h = pick (joins p q b) h (no_share bs)
     where
       pick : (x : Bool) → cond x 1 0 + count (map (joins p q) bs) ≡ 0 → (count (map (joins p q) bs) ≡ 0 → sum (map share bs) ≡ 0)
           → cond x b.code 0 + sum (map share bs) ≡ 0
@@ -43,7 +43,7 @@ module _ (p q : ℕ) where
     where
       pick : (x : Bool) → cond x 1 0 + count (map (joins p q) bs) ≤ 1 → (count (map (joins p q) bs) ≤ 1 → code_in bs p q ≡ sum (map share bs))
           → cond x b.code (code_in bs p q) ≡ cond x b.code 0 + sum (map share bs)
-      pick true k ih = omega (arith, no-share bs (omega arith))
+      pick true k ih = omega (arith, no_share bs (omega arith))
       pick false k ih = omega (arith, ih (omega arith))
 
   code-perm : {bs cs : List Bond} → Permᴰ bs cs → count (map (joins p q) cs) ≤ 1 → code_in cs p q ≡ code_in bs p q
@@ -75,8 +75,8 @@ module _ {σ : ℕ → ℕ} {n : ℕ} (S : Shuffle σ n) where
         code-moved p q h k bs (λ c m. e c (Memᴰ.tail m)),
       )
 
-pub redrawn-renumbered : (σ : ℕ → ℕ) (d d' : Drawing) → Redrawn σ d d' → Clean d → Clean d' → Renumbered σ (drawn d) (drawn d')
-redrawn-renumbered σ d d' R C C' = record {
+pub redrawn_renumbered : (σ : ℕ → ℕ) (d d' : Drawing) → Redrawn σ d d' → Clean d → Clean d' → Renumbered σ (drawn d) (drawn d')
+redrawn_renumbered σ d d' R C C' = record {
   size = R.atoms;
   shuffle = R.shuffle;
   label = λ a h. ap (λ k. k ∷ []) (R.kinds a h);

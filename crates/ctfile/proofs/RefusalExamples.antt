@@ -7,8 +7,8 @@ use lib.ListN.{get_or, take, replicate}
 use Rattle.lists.specs.Upto.{each}
 use Rattle.lists.specs.Quoted.{bytes_of}
 use Rattle.rules.specs.Answers.{refused, accepted}
-use Rattle.ctfile.specs.Molfiles.{nameOfMolfile}
-use Rattle.ctfile.proofs.Files.{fileOf, answer, files}
+use Rattle.ctfile.specs.Molfiles.{name_of_molfile}
+use Rattle.ctfile.proofs.Files.{file_of, answer, files}
 
 -- a file by the two numbers of its counts line, its symbols and its bond lines
 unfoldable drawn : (numbers : String) (symbols bonds : List String) → List String
@@ -24,7 +24,7 @@ unfoldable fault : (numbers : String) (symbols bonds : List String) → ℕ
 fault numbers symbols bonds = (answer (drawn numbers symbols bonds)).refusal
 
 -- hydrogen, a lone H, and no atom at all; 1 before 5
-h-alone :
+h_alone :
     answer (drawn "  2  1" ("H" ∷ "H" ∷ []) ("  1  2  1" ∷ []))
     ∷ answer (drawn "  1  0" ("H" ∷ []) [])
     ∷ answer (drawn "  0  0" [] [])
@@ -32,7 +32,7 @@ h-alone :
     ∷ []
     ≡ replicate 4 (refused 1 0)
 unfolding files drawn
-h-alone = refl
+h_alone = refl
 
 -- "anything but H and the 24 is 3 in its turn": it counts as an atom, and 3 comes before 5
 no_kind : map (λ s. fault "  2  1" ("C" ∷ s ∷ []) ("  1  3  9" ∷ [])) ("D" ∷ "T" ∷ "A" ∷ "Q" ∷ "*" ∷ "R#" ∷ "CL" ∷ "c" ∷ "Xyz" ∷ []) ≡ replicate 9 3
@@ -49,7 +49,7 @@ unfolding files drawn fault
 not_there = refl
 
 -- 7: an H with a code that is not 1, an H to itself, also where 6 would fit; an H to an H; a second bond of an H, also on the same pair
-h-rule :
+h_rule :
     map (λ b. fault "  2  1" ("C" ∷ "H" ∷ []) (b ∷ [])) ("  1  2  2" ∷ "  1  2  0" ∷ "  2  1  5" ∷ "  2  2  1" ∷ "  2  2  9" ∷ [])
     ++ (fault "  3  1" ("C" ∷ "H" ∷ "H" ∷ []) ("  2  3  1" ∷ [])
     ∷ fault "  3  2" ("C" ∷ "H" ∷ "O" ∷ []) ("  1  2  1" ∷ "  2  3  1" ∷ [])
@@ -57,7 +57,7 @@ h-rule :
     ∷ [])
     ≡ replicate 8 7
 unfolding files drawn fault
-h-rule = refl
+h_rule = refl
 
 -- 6: a code that is none, a bond to itself, a second bond on a pair
 bad-bond :
@@ -142,10 +142,10 @@ apart = refl
 -- two carbons have two numberings, and their name two bytes
 carbons : List ℕ
 unfolding files drawn
-carbons = fileOf (drawn "  2  1" ("C" ∷ "C" ∷ []) ("  1  2  1" ∷ []))
+carbons = file_of (drawn "  2  1" ("C" ∷ "C" ∷ []) ("  1  2  1" ∷ []))
 
-allowance-and-room :
-    nameOfMolfile carbons 2 2 ∷ nameOfMolfile carbons 1 2 ∷ nameOfMolfile carbons 2 1 ∷ nameOfMolfile carbons 0 0 ∷ []
+allowance_and_room :
+    name_of_molfile carbons 2 2 ∷ name_of_molfile carbons 1 2 ∷ name_of_molfile carbons 2 1 ∷ name_of_molfile carbons 0 0 ∷ []
     ≡ accepted 2 (bytes_of "CC") ∷ refused 9 0 ∷ refused 10 0 ∷ refused 9 0 ∷ []
 unfolding files carbons
-allowance-and-room = refl
+allowance_and_room = refl

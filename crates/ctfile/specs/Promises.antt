@@ -6,24 +6,24 @@ use Rattle.molecule.specs.Bonds.{Bond, code_in}
 use Rattle.molecule.specs.Molecule.{Molecule}
 use Rattle.molecule.specs.Renumbering.{Renumbered}
 use Rattle.molecule.specs.Judged.{WellFormed}
-use Rattle.molecule.specs.Written.{cardBytes}
+use Rattle.molecule.specs.Written.{card_bytes}
 use Rattle.rules.specs.Answers.{name_of}
-use Rattle.rules.specs.Contracts.{Result}
+use Rattle.rules.specs.Allowed.{Result}
 use Rattle.rules.specs.Promises.{KeptBy}
-use Rattle.ctfile.specs.Filed.{sound, verdict, Drawing, drawingOf}
-use Rattle.ctfile.specs.Drawings.{folded, drawingFault}
-use Rattle.ctfile.specs.Molfiles.{mostFile, nameOfMolfile, MolfileRun}
+use Rattle.ctfile.specs.Filed.{sound, verdict, Drawing, drawing_of}
+use Rattle.ctfile.specs.Drawings.{folded, drawing_fault}
+use Rattle.ctfile.specs.Molfiles.{most_file, name_of_molfile, MolfileRun}
 
 -- none of 11 and 1 to 8 refuses the file
 pub record WellFormedFile (file : List ℕ) : Type 0 where
-  pub short : length file ≤ mostFile
+  pub short : length file ≤ most_file
   pub lines : verdict file ≡ sound
-  pub drawing : drawingFault (drawingOf file) ≡ 0
+  pub drawing : drawing_fault (drawing_of file) ≡ 0
 
 -- ---- Kept: what was lent comes back, and a refused call changes no byte of it
 
 abbrev pub AlwaysKept : Type 0
-AlwaysKept = (file : List ℕ) (allowance : ℕ) (lent : List ℕ) → KeptBy (nameOfMolfile file allowance (length lent)) lent
+AlwaysKept = (file : List ℕ) (allowance : ℕ) (lent : List ℕ) → KeptBy (name_of_molfile file allowance (length lent)) lent
 
 -- ---- Same: "Renumbering the file's atoms must not change the name", refusals 9 and 10 included
 
@@ -34,14 +34,14 @@ drawn d = record { size = length d.kinds; label = λ a. get_or d.kinds a 25 ∷ 
 abbrev pub AlwaysSame : Type 0
 AlwaysSame =
     (σ : ℕ → ℕ) (file file' : List ℕ) → WellFormedFile file → WellFormedFile file'
-    → Renumbered σ (drawn (drawingOf file)) (drawn (drawingOf file'))
-    → (allowance room : ℕ) → nameOfMolfile file' allowance room ≡ nameOfMolfile file allowance room
+    → Renumbered σ (drawn (drawing_of file)) (drawn (drawing_of file'))
+    → (allowance room : ℕ) → name_of_molfile file' allowance room ≡ name_of_molfile file allowance room
 
 -- and so of what two calls return and leave in the lent buffer
 abbrev pub SameRuns : Type 0
 SameRuns =
     (σ : ℕ → ℕ) (file file' : List ℕ) → WellFormedFile file → WellFormedFile file'
-    → Renumbered σ (drawn (drawingOf file)) (drawn (drawingOf file'))
+    → Renumbered σ (drawn (drawing_of file)) (drawn (drawing_of file'))
     → (allowance : ℕ) (lent : List ℕ) (r r' : Result) → MolfileRun file allowance lent r → MolfileRun file' allowance lent r' → r ≡ r'
 
 -- the same by lines: the atom lines in another order, the bond lines with the new numbers and in any order
@@ -56,14 +56,14 @@ pub record Redrawn (σ : ℕ → ℕ) (d d' : Drawing) : Type 0 where
 
 abbrev pub AlwaysSameLines : Type 0
 AlwaysSameLines =
-    (σ : ℕ → ℕ) (file file' : List ℕ) → WellFormedFile file → WellFormedFile file' → Redrawn σ (drawingOf file) (drawingOf file')
-    → (allowance room : ℕ) → nameOfMolfile file' allowance room ≡ nameOfMolfile file allowance room
+    (σ : ℕ → ℕ) (file file' : List ℕ) → WellFormedFile file → WellFormedFile file' → Redrawn σ (drawing_of file) (drawing_of file')
+    → (allowance room : ℕ) → name_of_molfile file' allowance room ≡ name_of_molfile file allowance room
 
 -- ---- As a card: a molfile and the card that it folds to get the same name and leaf count
 
 pub record AsCard (file : List ℕ) : Type 0 where
-  pub wellFormed : WellFormed (cardBytes (folded (drawingOf file)))
-  pub named : (allowance room : ℕ) → nameOfMolfile file allowance room ≡ name_of (cardBytes (folded (drawingOf file))) allowance room
+  pub well_formed : WellFormed (card_bytes (folded (drawing_of file)))
+  pub named : (allowance room : ℕ) → name_of_molfile file allowance room ≡ name_of (card_bytes (folded (drawing_of file))) allowance room
 
 abbrev pub AlwaysAsCard : Type 0
 AlwaysAsCard = (file : List ℕ) → WellFormedFile file → AsCard file

@@ -6,11 +6,11 @@ use Prim.Native.Nat.{ℕ}
 use native.Mathlib.Omega.{arith}
 use lib.Dec.{eqb, leb, ltb}
 use borrow.Author.Tests.{ltb-true, ne_eqb}
-use Rattle.lists.proofs.Booleans.{or-neither, unless}
+use Rattle.lists.proofs.Booleans.{or_neither, unless}
 use Rattle.molecule.specs.Bonds.{Bond}
-use Rattle.table.specs.Arrays.{codeFound}
-use Rattle.table.specs.Changes.{bondOf, RowArrays, BondPut}
-use Rattle.card.specs.Tests.{bondTested}
+use Rattle.table.specs.Arrays.{code_found}
+use Rattle.table.specs.Changes.{bond_of, RowArrays, BondPut}
+use Rattle.card.specs.Tests.{bond_tested}
 use Rattle.drawing.specs.Tests.{capped}
 use Rattle.drawing.specs.Folding.{Linked}
 
@@ -29,16 +29,16 @@ module _ (n : ℕ) (degrees near codes : List ℕ) (a b code byte : ℕ) (e : by
       go true f = ap (ltb 4) (e ∙ ap (λ (q : Bool). cond {A = ℕ} q 5 code) f) ∙ sym f
       go false f = ap (ltb 4) (e ∙ ap (λ (q : Bool). cond {A = ℕ} q 5 code) f)
 
-  pub byte-tested : bondTested n degrees near codes (bondOf a b byte) ≡ bondTested n degrees near codes (bondOf a b code)
-  unfolding bondTested
-  byte-tested = rw (zero-alike, over-alike)
+  pub byte_tested : bond_tested n degrees near codes (bond_of a b byte) ≡ bond_tested n degrees near codes (bond_of a b code)
+  unfolding bond_tested
+  byte_tested = rw (zero-alike, over-alike)
 
   -- a code that passes is kept
-  pub byte-same : bondTested n degrees near codes (bondOf a b byte) ≡ 0 → byte ≡ code
-  unfolding bondTested
-  byte-same z =
+  pub byte_same : bond_tested n degrees near codes (bond_of a b byte) ≡ 0 → byte ≡ code
+  unfolding bond_tested
+  byte_same z =
       let there = unless (leb n a || leb n b) 4 _ z in
-      let w = or-neither (eqb a b || not (eqb (codeFound degrees near codes a b) 0) || eqb byte 0) (ltb 4 byte) (unless _ 5 _ there.1).0 in
+      let w = or_neither (eqb a b || not (eqb (code_found degrees near codes a b) 0) || eqb byte 0) (ltb 4 byte) (unless _ 5 _ there.1).0 in
       let f : ltb 4 code ≡ false = sym over-alike ∙ w.1 in
       e ∙ rw f
 

@@ -7,18 +7,18 @@ use lib.Dec.{eqb, leb}
 use lib.ListN.{length, get_or}
 use borrow.Author.Tests.{leb-false}
 use Rattle.lists.specs.Tests.{keep, some}
-use Rattle.lists.proofs.Booleans.{or-neither, unless}
+use Rattle.lists.proofs.Booleans.{or_neither, unless}
 use Rattle.molecule.specs.Bonds.{Bond, on}
-use Rattle.molecule.specs.Refusals.{orNext}
-use Rattle.molecule.specs.Judged.{bondJudged}
+use Rattle.molecule.specs.Refusals.{or_next}
+use Rattle.molecule.specs.Judged.{bond_judged}
 use Rattle.ctfile.specs.Filed.{Drawing}
-use Rattle.ctfile.specs.Drawings.{isH, toH, wrongH, bondFault}
-use Rattle.drawing.specs.Tests.{hTested, endsTested}
+use Rattle.ctfile.specs.Drawings.{is_h, to_h, wrong_h, bond_fault}
+use Rattle.drawing.specs.Tests.{h_tested, ends_tested}
 use Rattle.drawing.proofs.Links.{Inside}
 
 -- H at one end, at the other, the code 1, the first end bonded, the second
 table : (p q c s t : Bool) (j : ℕ)
-    → cond ((p || q) && (p && q || not c || p && s || q && t)) 7 (cond (p || q) 0 j) ≡ orNext (cond p (cond (q || not c || s) 7 0) (cond q (cond (p || not c || t) 7 0) 0)) (cond (p || q) 0 j)
+    → cond ((p || q) && (p && q || not c || p && s || q && t)) 7 (cond (p || q) 0 j) ≡ or_next (cond p (cond (q || not c || s) 7 0) (cond q (cond (p || not c || t) 7 0) 0)) (cond (p || q) 0 j)
 table true true c s t j = refl
 table true false true true t j = refl
 table true false true false t j = refl
@@ -29,20 +29,20 @@ table false true false s t j = refl
 table false false c s t j = refl
 
 -- the ends of a bond that passes are there
-pub tested-inside : (kinds used : List ℕ) (atoms : ℕ) (b : Bond) → endsTested kinds used atoms b ≡ 0 → (b.one < atoms) × (b.two < atoms)
-unfolding endsTested
-tested-inside kinds used atoms b z =
-    let w = or-neither (leb atoms b.one) (leb atoms b.two) (unless _ 4 _ z).0 in
+pub tested_inside : (kinds used : List ℕ) (atoms : ℕ) (b : Bond) → ends_tested kinds used atoms b ≡ 0 → (b.one < atoms) × (b.two < atoms)
+unfolding ends_tested
+tested_inside kinds used atoms b z =
+    let w = or_neither (leb atoms b.one) (leb atoms b.two) (unless _ 4 _ z).0 in
     (leb-false atoms b.one w.0, leb-false atoms b.two w.1)
 
 module _ (d : Drawing) (before : List Bond) (kinds used : List ℕ)
     (K : (p : ℕ) → p < length d.kinds → get_or kinds p 0 ≡ get_or d.kinds p 25)
     (U : (p : ℕ) → p < length d.kinds → get_or used p 0 ≡ cond (some (map (on p) before)) 1 0) (b : Bond) where
   abbrev pub tested : ℕ
-  tested = endsTested kinds used (length d.kinds) b
+  tested = ends_tested kinds used (length d.kinds) b
 
-  h-is : (p : ℕ) → p < length d.kinds → eqb (get_or kinds p 0) 0 ≡ isH d p
-  h-is p h = ap (λ (k : ℕ). eqb k 0) (K p h)
+  h_is : (p : ℕ) → p < length d.kinds → eqb (get_or kinds p 0) 0 ≡ is_h d p
+  h_is p h = ap (λ (k : ℕ). eqb k 0) (K p h)
 
   used-is : (p : ℕ) → p < length d.kinds → not (eqb (get_or used p 0) 0) ≡ some (map (on p) before)
   used-is p h = ap (λ (k : ℕ). not (eqb k 0)) (U p h) ∙ go (some (map (on p) before))
@@ -52,41 +52,41 @@ module _ (d : Drawing) (before : List Bond) (kinds used : List ℕ)
       go false = refl
 
   inside : (leb (length d.kinds) b.one || leb (length d.kinds) b.two) ≡ false → Inside d b
-  inside e = let w = or-neither _ _ e in (leb-false _ _ w.0, leb-false _ _ w.1)
+  inside e = let w = or_neither _ _ e in (leb-false _ _ w.0, leb-false _ _ w.1)
 
-  pub ends-judged : bondFault d before b ≡ orNext tested (cond (toH d b) 0 (bondJudged (length d.kinds) (keep (λ x. not (toH d x)) before) b))
-  unfolding bondFault wrongH endsTested
+  pub ends-judged : bond_fault d before b ≡ or_next tested (cond (to_h d b) 0 (bond_judged (length d.kinds) (keep (λ x. not (to_h d x)) before) b))
+  unfolding bond_fault wrong_h ends_tested
   ends-judged = go (leb (length d.kinds) b.one || leb (length d.kinds) b.two) refl
     where
       j : ℕ
-      j = bondJudged (length d.kinds) (keep (λ x. not (toH d x)) before) b
+      j = bond_judged (length d.kinds) (keep (λ x. not (to_h d x)) before) b
 
       go : (p : Bool) → (leb (length d.kinds) b.one || leb (length d.kinds) b.two) ≡ p
-          → cond p 5 (cond (wrongH d before b) 7 (cond (toH d b) 0 j))
-          ≡ orNext
+          → cond p 5 (cond (wrong_h d before b) 7 (cond (to_h d b) 0 j))
+          ≡ or_next
           (cond p 5
           (cond (eqb (get_or kinds b.one 0) 0) (cond (eqb (get_or kinds b.two 0) 0 || not (eqb b.code 1) || not (eqb (get_or used b.one 0) 0)) 7 0)
           (cond (eqb (get_or kinds b.two 0) 0) (cond (eqb (get_or kinds b.one 0) 0 || not (eqb b.code 1) || not (eqb (get_or used b.two 0) 0)) 7 0) 0)))
-          (cond (toH d b) 0 j)
+          (cond (to_h d b) 0 j)
       go true e = refl
       go false e =
           let I = inside e in
-          rw (h-is b.one I.0, h-is b.two I.1, used-is b.one I.0, used-is b.two I.1)
-          (table (isH d b.one) (isH d b.two) (eqb b.code 1) (some (map (on b.one) before)) (some (map (on b.two) before)) j)
+          rw (h_is b.one I.0, h_is b.two I.1, used-is b.one I.0, used-is b.two I.1)
+          (table (is_h d b.one) (is_h d b.two) (eqb b.code 1) (some (map (on b.one) before)) (some (map (on b.two) before)) j)
 
   module _ (z : tested ≡ 0) where
     pub ends-inside : Inside d b
-    ends-inside = tested-inside kinds used (length d.kinds) b z
+    ends-inside = tested_inside kinds used (length d.kinds) b z
 
     -- the other end of a bond to an H is none
-    pub ends-other : isH d b.one ≡ true → isH d b.two ≡ false
-    unfolding endsTested
+    pub ends-other : is_h d b.one ≡ true → is_h d b.two ≡ false
+    unfolding ends_tested
     ends-other e =
         let I = ends-inside in
         let one = eqb (get_or kinds b.one 0) 0 in
         let two = eqb (get_or kinds b.two 0) 0 in
-        let h = hTested (get_or kinds b.two 0) (get_or used b.one 0) b.code in
-        let g = hTested (get_or kinds b.one 0) (get_or used b.two 0) b.code in
+        let h = h_tested (get_or kinds b.two 0) (get_or used b.one 0) b.code in
+        let g = h_tested (get_or kinds b.one 0) (get_or used b.two 0) b.code in
         let y = (unless (leb (length d.kinds) b.one || leb (length d.kinds) b.two) 4 (cond one h (cond two g 0)) z).1 in
-        let x = ap (λ (p : Bool). cond p h (cond two g 0)) (sym (h-is b.one I.0 ∙ e)) ∙ y in
-        sym (h-is b.two I.1) ∙ (or-neither two (not (eqb b.code 1)) (or-neither (two || not (eqb b.code 1)) (not (eqb (get_or used b.one 0) 0)) (unless _ 6 0 x).0).0).0
+        let x = ap (λ (p : Bool). cond p h (cond two g 0)) (sym (h_is b.one I.0 ∙ e)) ∙ y in
+        sym (h_is b.two I.1) ∙ (or_neither two (not (eqb b.code 1)) (or_neither (two || not (eqb b.code 1)) (not (eqb (get_or used b.one 0) 0)) (unless _ 6 0 x).0).0).0

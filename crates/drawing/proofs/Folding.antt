@@ -14,20 +14,20 @@ use Rattle.lists.proofs.All.{All}
 use Rattle.molecule.specs.Bonds.{Bond, on}
 use Rattle.sling.specs.Reading as text
 use Rattle.table.specs.declared.Table.{Table}
-use Rattle.card.proofs.Faults.{Rest, rest-start}
+use Rattle.card.proofs.Faults.{Rest, rest_start}
 use Rattle.card.proofs.Bonded.{Bonded, bonded-none}
 use Rattle.ctfile.specs.Filed.{Drawing}
-use Rattle.ctfile.specs.Drawings.{toH, asRead, noBond, bondFault, bondsFault}
+use Rattle.ctfile.specs.Drawings.{to_h, as_read, no_bond, bond_fault, bonds_fault}
 use Rattle.drawing.specs.declared.atoms.Bare.{Bare}
-use Rattle.drawing.specs.Tests.{capped, oneMore}
+use Rattle.drawing.specs.Tests.{capped, one_more}
 use Rattle.drawing.specs.Folding.{Bares, counted}
 use Rattle.drawing.proofs.Links.{size, place, Inside, linked}
 
 -- one hydrogen more, where they are counted to one over the limit
-capped-more : (c : ℕ) → oneMore (capped c) ≡ capped (c + 1)
+capped-more : (c : ℕ) → one_more (capped c) ≡ capped (c + 1)
 capped-more c = go (ltb 4 c) refl
   where
-    go : (p : Bool) → ltb 4 c ≡ p → oneMore (capped c) ≡ capped (c + 1)
+    go : (p : Bool) → ltb 4 c ≡ p → one_more (capped c) ≡ capped (c + 1)
     go true e = let h = ltb-true 4 c e in rw (e, lt-ltb 4 (c + 1) (omega arith))
     go false e = rw (e, e) (last (ℕ_discrete c 4) (ltb-false 4 c e))
       where
@@ -41,11 +41,11 @@ counted-more hs y a c h e = go (eqb y a) refl
     go : (p : Bool) → eqb y a ≡ p → get_or (counted hs y) a 0 ≡ capped (c + cond p 1 0)
     go true q =
         let w : y ≡ a = eqb-true y a q in
-        ap (λ (x : ℕ). get_or (counted hs y) x 0) (sym w) ∙ get_or-set_same hs y (oneMore (get_or hs y 0)) 0 h
-        ∙ ap oneMore (ap (λ (x : ℕ). get_or hs x 0) w ∙ e) ∙ capped-more c
+        ap (λ (x : ℕ). get_or (counted hs y) x 0) (sym w) ∙ get_or-set_same hs y (one_more (get_or hs y 0)) 0 h
+        ∙ ap one_more (ap (λ (x : ℕ). get_or hs x 0) w ∙ e) ∙ capped-more c
     go false q =
         let z : c ≡ c + 0 = omega arith in
-        get_or-set_other hs y a (oneMore (get_or hs y 0)) 0 (λ w. eqb-false y a q (sym w)) ∙ e ∙ ap capped z
+        get_or-set_other hs y a (one_more (get_or hs y 0)) 0 (λ w. eqb-false y a q (sym w)) ∙ e ∙ ap capped z
 
 -- two atoms more that have a bond
 pub marked_more : (used : List ℕ) (i j p : ℕ) (s : Bool) → i < length used → j < length used → get_or used p 0 ≡ cond s 1 0
@@ -66,25 +66,25 @@ marked_more used i j p s h k e = go (ℕ_discrete p j) (ℕ_discrete p i)
 
 module _ (d : Drawing) where
   -- a bond that is a hydrogen of p
-  abbrev pub hydrogenOf : ℕ → Bond → Bool
-  hydrogenOf p b = on p b && text.toH (asRead d) b
+  abbrev pub hydrogen_of : ℕ → Bond → Bool
+  hydrogen_of p b = on p b && text.to_h (as_read d) b
 
-  abbrev pub faultAt : ℕ → ℕ
-  faultAt k = bondFault d (take k d.bonds) (get_or d.bonds k noBond)
+  abbrev pub fault_at : ℕ → ℕ
+  fault_at k = bond_fault d (take k d.bonds) (get_or d.bonds k no_bond)
 
   pub record FoldedTo (t : Table) (marks : List ℕ) (k : ℕ) : Type 0 where
     pub few : k ≤ length d.bonds
     pub atoms : length d.kinds ≤ 999
     pub rows : Bonded (size d) (linked d (take k d.bonds)) t
     pub kinds : (a : ℕ) → a < size d → get_or t.kinds a 0 ≡ get_or d.kinds (place d a) 0
-    pub hydrogens : (a : ℕ) → a < size d → get_or t.hydrogens a 0 ≡ capped (count (map (hydrogenOf (place d a)) (take k d.bonds)))
+    pub hydrogens : (a : ℕ) → a < size d → get_or t.hydrogens a 0 ≡ capped (count (map (hydrogen_of (place d a)) (take k d.bonds)))
     pub ends : All (Inside d) (take k d.bonds)
     pub long : length marks ≡ 999
     pub used : (p : ℕ) → p < length d.kinds → get_or marks p 0 ≡ cond (some (map (on p) (take k d.bonds))) 1 0
-    pub rest : bondsFault d ≡ Rest faultAt (length d.bonds) k
+    pub rest : bonds_fault d ≡ Rest fault_at (length d.bonds) k
 
   pub folded_start : (r : Bare) (marks : List ℕ) → Bares d.kinds r → length d.kinds ≤ 999 → length marks ≡ 999 → ((p : ℕ) → p < 999 → get_or marks p 0 ≡ 0) → FoldedTo r.table marks 0
-  unfolding bondsFault keep some
+  unfolding bonds_fault keep some
   folded_start r marks B few long z = record {
     few = omega arith;
     atoms = few;
@@ -94,5 +94,5 @@ module _ (d : Drawing) where
     ends = tt;
     long = long;
     used = λ p h. z p (omega arith);
-    rest = rest-start faultAt (length d.bonds);
+    rest = rest_start fault_at (length d.bonds);
   }

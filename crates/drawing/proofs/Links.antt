@@ -9,29 +9,29 @@ use lib.ListN.{length, get_or}
 use borrow.Author.Tests.{eq-eqb, ne_eqb, eqb-true, eqb-false, lt-leb, not-true}
 use Rattle.lists.specs.Tests.{keep, count, some}
 use Rattle.lists.proofs.All.{All}
-use Rattle.lists.proofs.Booleans.{or-neither}
+use Rattle.lists.proofs.Booleans.{or_neither}
 use Rattle.lists.proofs.Steps.{keep_append}
 use Rattle.lists.proofs.KeptBelow.{kept_at, kept_of}
 use Rattle.molecule.specs.Bonds.{Bond, on, joins, code_in}
-use Rattle.molecule.specs.Judged.{bondJudged}
+use Rattle.molecule.specs.Judged.{bond_judged}
 use Rattle.molecule.proofs.BondLists.{joins-ends, Between}
-use Rattle.table.specs.Changes.{bondOf}
+use Rattle.table.specs.Changes.{bond_of}
 use Rattle.ctfile.specs.Filed.{Drawing}
-use Rattle.ctfile.specs.Drawings.{isH, toH}
-use Rattle.drawing.specs.Folding.{heaviesTo}
-use Rattle.drawing.proofs.Taken.{getD-there}
+use Rattle.ctfile.specs.Drawings.{is_h, to_h}
+use Rattle.drawing.specs.Folding.{heavies_to}
+use Rattle.drawing.proofs.Taken.{get_or-there}
 use Rattle.drawing.proofs.Bared.{heavy}
 
 module _ (d : Drawing) where
   -- how many atoms are no H, the place of such an atom, and the number of the atom at a place
   abbrev pub size : ℕ
-  size = length (heaviesTo d.kinds (length d.kinds))
+  size = length (heavies_to d.kinds (length d.kinds))
 
   abbrev pub place : ℕ → ℕ
-  place a = get_or (heaviesTo d.kinds (length d.kinds)) a 0
+  place a = get_or (heavies_to d.kinds (length d.kinds)) a 0
 
   abbrev pub number : ℕ → ℕ
-  number x = length (heaviesTo d.kinds x)
+  number x = length (heavies_to d.kinds x)
 
   abbrev pub Inside : Bond → Type 0
   Inside b = (b.one < length d.kinds) × (b.two < length d.kinds)
@@ -39,18 +39,18 @@ module _ (d : Drawing) where
   -- an atom that is there and no H
   pub record Heavy (x : ℕ) : Type 0 where
     pub there : x < length d.kinds
-    pub other : isH d x ≡ false
+    pub other : is_h d x ≡ false
 
-  pub isH-there : (x : ℕ) → x < length d.kinds → isH d x ≡ eqb (get_or d.kinds x 0) 0
-  isH-there x h = ap (λ (k : ℕ). eqb k 0) (getD-there d.kinds x 25 0 h)
+  pub is_h-there : (x : ℕ) → x < length d.kinds → is_h d x ≡ eqb (get_or d.kinds x 0) 0
+  is_h-there x h = ap (λ (k : ℕ). eqb k 0) (get_or-there d.kinds x 25 0 h)
 
   pub place-number : (x : ℕ) → Heavy x → (number x < size) × (place (number x) ≡ x)
-  place-number x X = kept_at (heavy d.kinds) (length d.kinds) x X.there (ap not (sym (isH-there x X.there) ∙ X.other))
+  place-number x X = kept_at (heavy d.kinds) (length d.kinds) x X.there (ap not (sym (is_h-there x X.there) ∙ X.other))
 
   pub number-place : (a : ℕ) → a < size → Heavy (place a) × (number (place a) ≡ a)
   number-place a h =
       let K = kept_of (heavy d.kinds) (length d.kinds) a h in
-      (record { there = K.below; other = isH-there (place a) K.below ∙ not-true _ K.passes }, K.order)
+      (record { there = K.below; other = is_h-there (place a) K.below ∙ not-true _ K.passes }, K.order)
 
   pub same_number : (x y : ℕ) → Heavy x → Heavy y → eqb (number x) (number y) ≡ eqb x y
   same_number x y X Y = go (eqb x y) refl
@@ -60,54 +60,54 @@ module _ (d : Drawing) where
       go false e = ne_eqb _ _ (λ q. eqb-false x y e (sym (place-number x X).1 ∙ ap place q ∙ (place-number y Y).1))
 
   abbrev pub renumbered : Bond → Bond
-  renumbered b = bondOf (number b.one) (number b.two) b.code
+  renumbered b = bond_of (number b.one) (number b.two) b.code
 
   abbrev pub heavies : List Bond → List Bond
-  heavies bs = keep (λ b. not (toH d b)) bs
+  heavies bs = keep (λ b. not (to_h d b)) bs
 
   abbrev pub linked : List Bond → List Bond
   linked bs = map renumbered (heavies bs)
 
-  pub ends-heavy : (b : Bond) → Inside b → toH d b ≡ false → Heavy b.one × Heavy b.two
+  pub ends-heavy : (b : Bond) → Inside b → to_h d b ≡ false → Heavy b.one × Heavy b.two
   ends-heavy b I e =
-      let w = or-neither (isH d b.one) (isH d b.two) e in
+      let w = or_neither (is_h d b.one) (is_h d b.two) e in
       (record { there = I.0; other = w.0 }, record { there = I.1; other = w.1 })
 
-  pub linked-hit : (bs : List Bond) (b : Bond) → toH d b ≡ false → linked (bs ++ (b ∷ [])) ≡ linked bs ++ (renumbered b ∷ [])
+  pub linked-hit : (bs : List Bond) (b : Bond) → to_h d b ≡ false → linked (bs ++ (b ∷ [])) ≡ linked bs ++ (renumbered b ∷ [])
   unfolding keep
   linked-hit bs b e =
-      ap (map renumbered) (keep_append (λ x. not (toH d x)) bs (b ∷ []) ∙ ap (λ (p : Bool). heavies bs ++ cond (not p) (b ∷ []) []) e)
+      ap (map renumbered) (keep_append (λ x. not (to_h d x)) bs (b ∷ []) ∙ ap (λ (p : Bool). heavies bs ++ cond (not p) (b ∷ []) []) e)
       ∙ map-append renumbered (heavies bs) (b ∷ [])
 
-  pub linked-miss : (bs : List Bond) (b : Bond) → toH d b ≡ true → linked (bs ++ (b ∷ [])) ≡ linked bs
+  pub linked-miss : (bs : List Bond) (b : Bond) → to_h d b ≡ true → linked (bs ++ (b ∷ [])) ≡ linked bs
   unfolding keep
   linked-miss bs b e =
-      ap (map renumbered) (keep_append (λ x. not (toH d x)) bs (b ∷ []) ∙ ap (λ (p : Bool). heavies bs ++ cond (not p) (b ∷ []) []) e ∙ append-nil (heavies bs))
+      ap (map renumbered) (keep_append (λ x. not (to_h d x)) bs (b ∷ []) ∙ ap (λ (p : Bool). heavies bs ++ cond (not p) (b ∷ []) []) e ∙ append-nil (heavies bs))
 
   module _ (x : ℕ) (X : Heavy x) where
-    same-on : (b : Bond) → Heavy b.one × Heavy b.two → on (number x) (renumbered b) ≡ on x b
-    same-on b E = ap₂ ◌||◌ (same_number b.one x E.0 X) (same_number b.two x E.1 X)
+    same_on : (b : Bond) → Heavy b.one × Heavy b.two → on (number x) (renumbered b) ≡ on x b
+    same_on b E = ap₂ ◌||◌ (same_number b.one x E.0 X) (same_number b.two x E.1 X)
 
     pub linked-count : (bs : List Bond) → All Inside bs → count (map (on (number x)) (linked bs)) ≡ count (map (on x) (heavies bs))
     unfolding keep
     linked-count [] I = refl
-    linked-count (b ∷ bs) I = go (toH d b) refl (linked-count bs I.1)
+    linked-count (b ∷ bs) I = go (to_h d b) refl (linked-count bs I.1)
       where
-        go : (p : Bool) → toH d b ≡ p → count (map (on (number x)) (linked bs)) ≡ count (map (on x) (heavies bs))
+        go : (p : Bool) → to_h d b ≡ p → count (map (on (number x)) (linked bs)) ≡ count (map (on x) (heavies bs))
             → count (map (on (number x)) (map renumbered (cond (not p) (b ∷ heavies bs) (heavies bs)))) ≡ count (map (on x) (cond (not p) (b ∷ heavies bs) (heavies bs)))
         go true e ih = ih
-        go false e ih = ap₂ (λ (q : Bool) (c : ℕ). cond {A = ℕ} q 1 0 + c) (same-on b (ends-heavy b I.0 e)) ih
+        go false e ih = ap₂ (λ (q : Bool) (c : ℕ). cond {A = ℕ} q 1 0 + c) (same_on b (ends-heavy b I.0 e)) ih
 
     module _ (y : ℕ) (Y : Heavy y) where
-      same-joins : (b : Bond) → Heavy b.one × Heavy b.two → joins (number x) (number y) (renumbered b) ≡ joins x y b
-      same-joins b E =
+      same_joins : (b : Bond) → Heavy b.one × Heavy b.two → joins (number x) (number y) (renumbered b) ≡ joins x y b
+      same_joins b E =
           rw (same_number b.one x E.0 X, same_number b.two y E.1 Y, same_number b.one y E.0 Y, same_number b.two x E.1 X)
 
       -- a bond to an H joins no two other atoms
-      not-joins : (b : Bond) → toH d b ≡ true → joins x y b ≡ false
-      not-joins b e = go (joins x y b) refl
+      not_joins : (b : Bond) → to_h d b ≡ true → joins x y b ≡ false
+      not_joins b e = go (joins x y b) refl
         where
-          ends : Between x y b → toH d b ≡ false
+          ends : Between x y b → to_h d b ≡ false
           ends (inl w) = rw (w.0, w.1, X.other, Y.other)
           ends (inr w) = rw (w.0, w.1, X.other, Y.other)
 
@@ -118,25 +118,25 @@ module _ (d : Drawing) where
       pub linked-some : (bs : List Bond) → All Inside bs → some (map (joins (number x) (number y)) (linked bs)) ≡ some (map (joins x y) (heavies bs))
       unfolding keep some
       linked-some [] I = refl
-      linked-some (b ∷ bs) I = go (toH d b) refl (linked-some bs I.1)
+      linked-some (b ∷ bs) I = go (to_h d b) refl (linked-some bs I.1)
         where
-          go : (p : Bool) → toH d b ≡ p → some (map (joins (number x) (number y)) (linked bs)) ≡ some (map (joins x y) (heavies bs))
+          go : (p : Bool) → to_h d b ≡ p → some (map (joins (number x) (number y)) (linked bs)) ≡ some (map (joins x y) (heavies bs))
               → some (map (joins (number x) (number y)) (map renumbered (cond (not p) (b ∷ heavies bs) (heavies bs)))) ≡ some (map (joins x y) (cond (not p) (b ∷ heavies bs) (heavies bs)))
           go true e ih = ih
-          go false e ih = ap₂ ◌||◌ (same-joins b (ends-heavy b I.0 e)) ih
+          go false e ih = ap₂ ◌||◌ (same_joins b (ends-heavy b I.0 e)) ih
 
       pub linked-code : (bs : List Bond) → All Inside bs → code_in (linked bs) (number x) (number y) ≡ code_in bs x y
       unfolding keep
       linked-code [] I = refl
-      linked-code (b ∷ bs) I = go (toH d b) refl (linked-code bs I.1)
+      linked-code (b ∷ bs) I = go (to_h d b) refl (linked-code bs I.1)
         where
-          go : (p : Bool) → toH d b ≡ p → code_in (linked bs) (number x) (number y) ≡ code_in bs x y
+          go : (p : Bool) → to_h d b ≡ p → code_in (linked bs) (number x) (number y) ≡ code_in bs x y
               → code_in (map renumbered (cond (not p) (b ∷ heavies bs) (heavies bs))) (number x) (number y) ≡ cond (joins x y b) b.code (code_in bs x y)
-          go true e ih = ih ∙ sym (ap (λ (q : Bool). cond q b.code (code_in bs x y)) (not-joins b e))
-          go false e ih = ap₂ (λ (q : Bool) (c : ℕ). cond q b.code c) (same-joins b (ends-heavy b I.0 e)) ih
+          go true e ih = ih ∙ sym (ap (λ (q : Bool). cond q b.code (code_in bs x y)) (not_joins b e))
+          go false e ih = ap₂ (λ (q : Bool) (c : ℕ). cond q b.code c) (same_joins b (ends-heavy b I.0 e)) ih
 
   -- a bond is judged alike by its places and by its numbers
-  pub linked-judged : (bs : List Bond) (b : Bond) → All Inside bs → Inside b → toH d b ≡ false → bondJudged size (linked bs) (renumbered b) ≡ bondJudged (length d.kinds) (heavies bs) b
+  pub linked-judged : (bs : List Bond) (b : Bond) → All Inside bs → Inside b → to_h d b ≡ false → bond_judged size (linked bs) (renumbered b) ≡ bond_judged (length d.kinds) (heavies bs) b
   linked-judged bs b A I e =
       let E = ends-heavy b I e in
       rw (

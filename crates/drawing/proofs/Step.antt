@@ -16,23 +16,23 @@ use Rattle.lists.proofs.All.{all_snoc}
 use Rattle.lists.proofs.Passed.{count-snoc}
 use Rattle.lists.proofs.Tested.{some-snoc}
 use Rattle.molecule.specs.Bonds.{Bond, on}
-use Rattle.molecule.specs.Judged.{bondJudged}
+use Rattle.molecule.specs.Judged.{bond_judged}
 use Rattle.sling.specs.Reading as text
 use Rattle.table.specs.declared.Table.{Table}
-use Rattle.table.specs.View.{arraysOf}
-use Rattle.table.specs.Changes.{bondOf, RowArrays}
+use Rattle.table.specs.View.{arrays_of}
+use Rattle.table.specs.Changes.{bond_of, RowArrays}
 use Rattle.table.proofs.Views.{tidy-row}
 use Rattle.table.proofs.Halves.{rows_of}
 use Rattle.table.proofs.Joins.{rowed, bond-roomy, bond-joins}
-use Rattle.card.proofs.Faults.{rest-stop, rest-next, orNext-some, orNext-none}
+use Rattle.card.proofs.Faults.{rest_stop, rest_next, or_next-some, or_next-none}
 use Rattle.card.proofs.Bonded.{Bonded, bonded-counted, bonded-tested, bonded-joinable, bonded-next}
 use Rattle.ctfile.specs.Filed.{Drawing}
-use Rattle.ctfile.specs.Drawings.{isH, toH, asRead, noBond, bondFault, bondsFault}
-use Rattle.drawing.specs.Tests.{capped, oneMore}
-use Rattle.drawing.specs.Folding.{judgedIn, Linkable, Unlinked, Linked}
-use Rattle.drawing.proofs.Links.{size, place, number, Inside, Heavy, isH-there, place-number, number-place, same_number, renumbered, heavies, linked, linked-hit, linked-miss, linked-judged}
+use Rattle.ctfile.specs.Drawings.{is_h, to_h, as_read, no_bond, bond_fault, bonds_fault}
+use Rattle.drawing.specs.Tests.{capped, one_more}
+use Rattle.drawing.specs.Folding.{judged_in, Linkable, Unlinked, Linked}
+use Rattle.drawing.proofs.Links.{size, place, number, Inside, Heavy, is_h-there, place-number, number-place, same_number, renumbered, heavies, linked, linked-hit, linked-miss, linked-judged}
 use Rattle.drawing.proofs.Ends.{tested, ends-judged, ends-inside, ends-other}
-use Rattle.drawing.proofs.Folding.{counted-more, marked_more, hydrogenOf, faultAt, FoldedTo}
+use Rattle.drawing.proofs.Folding.{counted-more, marked_more, hydrogen_of, fault_at, FoldedTo}
 
 -- the same table with other rows and hydrogens
 abbrev pub changed : Table → RowArrays → List ℕ → Table
@@ -40,52 +40,52 @@ changed t R hs = record { n = t.n; kinds = t.kinds; hydrogens = hs; degrees = R.
 
 module _ (d : Drawing) (t : Table) (marks : List ℕ) (k : ℕ) (F : FoldedTo d t marks k) (h : k < length d.bonds)
     (kinds : List ℕ) (K : (p : ℕ) → p < length d.kinds → get_or kinds p 0 ≡ get_or d.kinds p 25)
-    (i j code : ℕ) (same : get_or d.bonds k noBond ≡ bondOf i j code) where
+    (i j code : ℕ) (same : get_or d.bonds k no_bond ≡ bond_of i j code) where
   abbrev b : Bond
-  b = bondOf i j code
+  b = bond_of i j code
 
   abbrev bs : List Bond
   bs = take k d.bonds
 
   abbrev pub ends : ℕ
-  ends = tested d (take k d.bonds) kinds marks K F.used (bondOf i j code)
+  ends = tested d (take k d.bonds) kinds marks K F.used (bond_of i j code)
 
   one_more : take (k + 1) d.bonds ≡ bs ++ (b ∷ [])
-  one_more = rw (add-one k) (take-suc d.bonds k noBond h ∙ ap (λ (x : Bond). bs ++ (x ∷ [])) same)
+  one_more = rw (add-one k) (take-suc d.bonds k no_bond h ∙ ap (λ (x : Bond). bs ++ (x ∷ [])) same)
 
-  fault-here : faultAt d k ≡ bondFault d bs b
-  fault-here = ap (bondFault d bs) same
+  fault_here : fault_at d k ≡ bond_fault d bs b
+  fault_here = ap (bond_fault d bs) same
 
-  pub step-absent : ends ≢ 0 → ends ≡ bondsFault d
-  step-absent z =
-      let e : faultAt d k ≡ ends = fault-here ∙ ends-judged d bs kinds marks K F.used b ∙ orNext-some ends _ z in
-      sym (F.rest ∙ rest-stop (faultAt d) (length d.bonds) k h (λ q. z (sym e ∙ q)) ∙ e)
+  pub step_absent : ends ≢ 0 → ends ≡ bonds_fault d
+  step_absent z =
+      let e : fault_at d k ≡ ends = fault_here ∙ ends-judged d bs kinds marks K F.used b ∙ or_next-some ends _ z in
+      sym (F.rest ∙ rest_stop (fault_at d) (length d.bonds) k h (λ q. z (sym e ∙ q)) ∙ e)
 
   module _ (z : ends ≡ 0) where
     I : Inside d b
     I = ends-inside d bs kinds marks K F.used b z
 
-    pub step-inside : (i < length d.kinds) × (j < length d.kinds)
-    step-inside = I
+    pub step_inside : (i < length d.kinds) × (j < length d.kinds)
+    step_inside = I
 
-    fault-is : faultAt d k ≡ cond (toH d b) 0 (bondJudged (length d.kinds) (heavies d bs) b)
-    fault-is = fault-here ∙ ends-judged d bs kinds marks K F.used b ∙ orNext-none ends _ z
+    fault_is : fault_at d k ≡ cond (to_h d b) 0 (bond_judged (length d.kinds) (heavies d bs) b)
+    fault_is = fault_here ∙ ends-judged d bs kinds marks K F.used b ∙ or_next-none ends _ z
 
     -- whether an end is an H, by its kind
-    h-one : (p : Bool) → eqb (get_or kinds i 0) 0 ≡ p → isH d i ≡ p
-    h-one p e = sym (ap (λ (x : ℕ). eqb x 0) (K i I.0)) ∙ e
+    h_one : (p : Bool) → eqb (get_or kinds i 0) 0 ≡ p → is_h d i ≡ p
+    h_one p e = sym (ap (λ (x : ℕ). eqb x 0) (K i I.0)) ∙ e
 
-    h-two : (p : Bool) → eqb (get_or kinds j 0) 0 ≡ p → isH d j ≡ p
-    h-two p e = sym (ap (λ (x : ℕ). eqb x 0) (K j I.1)) ∙ e
+    h_two : (p : Bool) → eqb (get_or kinds j 0) 0 ≡ p → is_h d j ≡ p
+    h_two p e = sym (ap (λ (x : ℕ). eqb x 0) (K j I.1)) ∙ e
 
     heavy-two : get_or kinds i 0 ≡ 0 → Heavy d j
-    heavy-two e = record { there = I.1; other = ends-other d bs kinds marks K F.used b z (h-one true (eq-eqb _ _ e)) }
+    heavy-two e = record { there = I.1; other = ends-other d bs kinds marks K F.used b z (h_one true (eq-eqb _ _ e)) }
 
     heavy-one : get_or kinds j 0 ≡ 0 → Heavy d i
-    heavy-one e = record { there = I.0; other = go (isH d i) refl }
+    heavy-one e = record { there = I.0; other = go (is_h d i) refl }
       where
-        go : (p : Bool) → isH d i ≡ p → isH d i ≡ false
-        go true q = absurd (true≢false (sym (h-two true (eq-eqb _ _ e)) ∙ ends-other d bs kinds marks K F.used b z q))
+        go : (p : Bool) → is_h d i ≡ p → is_h d i ≡ false
+        go true q = absurd (true≢false (sym (h_two true (eq-eqb _ _ e)) ∙ ends-other d bs kinds marks K F.used b z q))
         go false q = q
 
     few : size d ≤ 64
@@ -93,26 +93,26 @@ module _ (d : Drawing) (t : Table) (marks : List ℕ) (k : ℕ) (F : FoldedTo d 
 
     module _ (x y : ℕ) (ex : x ≡ number d i) (ey : y ≡ number d j) where
       abbrev c : Bond
-      c = bondOf x y code
+      c = bond_of x y code
 
-      c-is : c ≡ renumbered d b
-      c-is = λ l. bondOf (ex l) (ey l) code
+      c_is : c ≡ renumbered d b
+      c_is = λ l. bond_of (ex l) (ey l) code
 
-      tested-is : judgedIn t.n (rows_of (arraysOf t)) c ≡ bondJudged (size d) (linked d bs) c
-      tested-is = ap (λ (n : ℕ). judgedIn n (rows_of (arraysOf t)) c) F.rows.size ∙ bonded-tested (size d) (linked d bs) t F.rows c
+      tested_is : judged_in t.n (rows_of (arrays_of t)) c ≡ bond_judged (size d) (linked d bs) c
+      tested_is = ap (λ (n : ℕ). judged_in n (rows_of (arrays_of t)) c) F.rows.size ∙ bonded-tested (size d) (linked d bs) t F.rows c
 
-      pub step-linkable : Linkable t.n (rows_of (arraysOf t)) (get_or kinds i 0) (get_or kinds j 0) c
-      step-linkable = record {
-        rows = λ a l. tidy-row (arraysOf t) F.rows.tidy a l;
+      pub step_linkable : Linkable t.n (rows_of (arrays_of t)) (get_or kinds i 0) (get_or kinds j 0) c
+      step_linkable = record {
+        rows = λ a l. tidy-row (arrays_of t) F.rows.tidy a l;
         one = λ e. omega (arith, ey, few, (place-number d j (heavy-two e)).0);
         two = λ e. omega (arith, ex, few, (place-number d i (heavy-one e)).0);
-        bond = λ q. bond-roomy (arraysOf t) F.rows.tidy x y code (bonded-joinable (size d) (linked d bs) t F.rows c (sym tested-is ∙ q));
+        bond = λ q. bond-roomy (arrays_of t) F.rows.tidy x y code (bonded-joinable (size d) (linked d bs) t F.rows c (sym tested_is ∙ q));
       }
 
-      module _ (r : ℕ) (R : RowArrays) (hs : List ℕ) (P : Linked t.n (rows_of (arraysOf t)) t.hydrogens (get_or kinds i 0) (get_or kinds j 0) c r R hs) where
+      module _ (r : ℕ) (R : RowArrays) (hs : List ℕ) (P : Linked t.n (rows_of (arrays_of t)) t.hydrogens (get_or kinds i 0) (get_or kinds j 0) c r R hs) where
         -- what the rest is, where the rows and the hydrogens have been changed
-        folded-next : faultAt d k ≡ 0 → Bonded (size d) (linked d (bs ++ (b ∷ []))) (changed t R hs)
-            → ((a : ℕ) → a < size d → get_or hs a 0 ≡ capped (count (map (hydrogenOf d (place d a)) (bs ++ (b ∷ [])))))
+        folded-next : fault_at d k ≡ 0 → Bonded (size d) (linked d (bs ++ (b ∷ []))) (changed t R hs)
+            → ((a : ℕ) → a < size d → get_or hs a 0 ≡ capped (count (map (hydrogen_of d (place d a)) (bs ++ (b ∷ [])))))
             → FoldedTo d (changed t R hs) (set (set marks i 1) j 1) (k + 1)
         folded-next e B H = record {
           few = omega arith;
@@ -123,7 +123,7 @@ module _ (d : Drawing) (t : Table) (marks : List ℕ) (k : ℕ) (F : FoldedTo d 
           ends = rw one_more (all_snoc (Inside d) bs b F.ends I);
           long = length-set (set marks i 1) j 1 ∙ length-set marks i 1 ∙ F.long;
           used = λ p l. rw one_more (marks-are p l);
-          rest = F.rest ∙ rest-next (faultAt d) (length d.bonds) k h e;
+          rest = F.rest ∙ rest_next (fault_at d) (length d.bonds) k h e;
         }
           where
             marks-are : (p : ℕ) → p < length d.kinds → get_or (set (set marks i 1) j 1) p 0 ≡ cond (some (map (on p) (bs ++ (b ∷ [])))) 1 0
@@ -131,90 +131,90 @@ module _ (d : Drawing) (t : Table) (marks : List ℕ) (k : ℕ) (F : FoldedTo d 
                 marked_more marks i j p (some (map (on p) bs)) (omega (arith, F.long, I.0, F.atoms)) (omega (arith, F.long, I.1, F.atoms)) (F.used p l)
                 ∙ ap (λ (s : Bool). cond {A = ℕ} s 1 0) (sym (some-snoc (on p) bs b))
 
-        fault-none : toH d b ≡ true → faultAt d k ≡ 0
-        fault-none e = fault-is ∙ ap (λ (p : Bool). cond p 0 (bondJudged (length d.kinds) (heavies d bs) b)) e
+        fault_none : to_h d b ≡ true → fault_at d k ≡ 0
+        fault_none e = fault_is ∙ ap (λ (p : Bool). cond p 0 (bond_judged (length d.kinds) (heavies d bs) b)) e
 
-        to-h : text.toH (asRead d) b ≡ toH d b
-        to-h = ap₂ ◌||◌ (sym (isH-there d i I.0)) (sym (isH-there d j I.1))
+        to-h : text.to_h (as_read d) b ≡ to_h d b
+        to-h = ap₂ ◌||◌ (sym (is_h-there d i I.0)) (sym (is_h-there d j I.1))
 
-        hydrogens-next : (a : ℕ) → count (map (hydrogenOf d (place d a)) (bs ++ (b ∷ []))) ≡ count (map (hydrogenOf d (place d a)) bs) + cond (on (place d a) b && toH d b) 1 0
+        hydrogens-next : (a : ℕ) → count (map (hydrogen_of d (place d a)) (bs ++ (b ∷ []))) ≡ count (map (hydrogen_of d (place d a)) bs) + cond (on (place d a) b && to_h d b) 1 0
         hydrogens-next a =
-            count-snoc (hydrogenOf d (place d a)) bs b ∙ ap (λ (p : Bool). count (map (hydrogenOf d (place d a)) bs) + cond (on (place d a) b && p) 1 0) to-h
+            count-snoc (hydrogen_of d (place d a)) bs b ∙ ap (λ (p : Bool). count (map (hydrogen_of d (place d a)) bs) + cond (on (place d a) b && p) 1 0) to-h
 
         -- a bond to an H, q its other end
-        module _ (q v : ℕ) (Q : Heavy d q) (ev : v ≡ number d q) (e : toH d b ≡ true) (only : (p : ℕ) → Heavy d p → on p b ≡ eqb q p)
-            (U : Unlinked (rows_of (arraysOf t)) t.hydrogens v r R hs) where
-          counted-here : (a : ℕ) → a < size d → (on (place d a) b && toH d b) ≡ eqb v a
+        module _ (q v : ℕ) (Q : Heavy d q) (ev : v ≡ number d q) (e : to_h d b ≡ true) (only : (p : ℕ) → Heavy d p → on p b ≡ eqb q p)
+            (U : Unlinked (rows_of (arrays_of t)) t.hydrogens v r R hs) where
+          counted-here : (a : ℕ) → a < size d → (on (place d a) b && to_h d b) ≡ eqb v a
           counted-here a l =
               let N = number-place d a l in
               rw (e, and-true (on (place d a) b)) (only (place d a) N.0 ∙ sym (same_number d q (place d a) Q N.0) ∙ ap₂ eqb (sym ev) N.1)
 
-          unlinked-next : FoldedTo d (changed t R hs) (set (set marks i 1) j 1) (k + 1)
-          unlinked-next =
-              folded-next (fault-none e)
+          unlinked_next : FoldedTo d (changed t R hs) (set (set marks i 1) j 1) (k + 1)
+          unlinked_next =
+              folded-next (fault_none e)
               (subst (λ (S : RowArrays). Bonded (size d) (linked d (bs ++ (b ∷ []))) (changed t S hs)) (sym U.rows)
-              (rw (linked-miss d bs b e) (bonded-counted (size d) (linked d bs) t F.rows hs (ap length U.hydrogens ∙ length-set t.hydrogens v (oneMore (get_or t.hydrogens v 0)) ∙ F.rows.tidy.hydrogensLong))))
+              (rw (linked-miss d bs b e) (bonded-counted (size d) (linked d bs) t F.rows hs (ap length U.hydrogens ∙ length-set t.hydrogens v (one_more (get_or t.hydrogens v 0)) ∙ F.rows.tidy.hydrogens_long))))
               (λ a l.
               ap (λ (g : List ℕ). get_or g a 0) U.hydrogens
-              ∙ counted-more t.hydrogens v a (count (map (hydrogenOf d (place d a)) bs)) (omega (arith, ev, few, (place-number d q Q).0, F.rows.tidy.hydrogensLong)) (F.hydrogens a l)
-              ∙ ap capped (ap (λ (p : Bool). count (map (hydrogenOf d (place d a)) bs) + cond p 1 0) (sym (counted-here a l)) ∙ sym (hydrogens-next a)))
+              ∙ counted-more t.hydrogens v a (count (map (hydrogen_of d (place d a)) bs)) (omega (arith, ev, few, (place-number d q Q).0, F.rows.tidy.hydrogens_long)) (F.hydrogens a l)
+              ∙ ap capped (ap (λ (p : Bool). count (map (hydrogen_of d (place d a)) bs) + cond p 1 0) (sym (counted-here a l)) ∙ sym (hydrogens-next a)))
 
         only_two : get_or kinds i 0 ≡ 0 → (p : ℕ) → Heavy d p → on p b ≡ eqb j p
-        only_two e p X = ap (λ (s : Bool). s || eqb j p) (ne_eqb i p (λ w. true≢false (sym (h-one true (eq-eqb _ _ e)) ∙ ap (isH d) w ∙ X.other)))
+        only_two e p X = ap (λ (s : Bool). s || eqb j p) (ne_eqb i p (λ w. true≢false (sym (h_one true (eq-eqb _ _ e)) ∙ ap (is_h d) w ∙ X.other)))
 
         only_one : get_or kinds j 0 ≡ 0 → (p : ℕ) → Heavy d p → on p b ≡ eqb i p
         only_one e p X =
-            ap (λ (s : Bool). eqb i p || s) (ne_eqb j p (λ w. true≢false (sym (h-two true (eq-eqb _ _ e)) ∙ ap (isH d) w ∙ X.other))) ∙ or-false (eqb i p)
+            ap (λ (s : Bool). eqb i p || s) (ne_eqb j p (λ w. true≢false (sym (h_two true (eq-eqb _ _ e)) ∙ ap (is_h d) w ∙ X.other))) ∙ or-false (eqb i p)
 
-        to_one : get_or kinds i 0 ≡ 0 → toH d b ≡ true
-        to_one e = ap (λ (s : Bool). s || isH d j) (h-one true (eq-eqb _ _ e))
+        to_one : get_or kinds i 0 ≡ 0 → to_h d b ≡ true
+        to_one e = ap (λ (s : Bool). s || is_h d j) (h_one true (eq-eqb _ _ e))
 
-        to-two : get_or kinds j 0 ≡ 0 → toH d b ≡ true
-        to-two e = ap (λ (s : Bool). isH d i || s) (h-two true (eq-eqb _ _ e)) ∙ or-true (isH d i)
+        to-two : get_or kinds j 0 ≡ 0 → to_h d b ≡ true
+        to-two e = ap (λ (s : Bool). is_h d i || s) (h_two true (eq-eqb _ _ e)) ∙ or-true (is_h d i)
 
         -- a bond without an H end
         module _ (u : get_or kinds i 0 ≢ 0) (w : get_or kinds j 0 ≢ 0) where
-          to_none : toH d b ≡ false
-          to_none = ap₂ ◌||◌ (h-one false (ne_eqb _ _ u)) (h-two false (ne_eqb _ _ w))
+          to_none : to_h d b ≡ false
+          to_none = ap₂ ◌||◌ (h_one false (ne_eqb _ _ u)) (h_two false (ne_eqb _ _ w))
 
-          judged : bondJudged (size d) (linked d bs) c ≡ faultAt d k
+          judged : bond_judged (size d) (linked d bs) c ≡ fault_at d k
           judged =
-              ap (bondJudged (size d) (linked d bs)) c-is ∙ linked-judged d bs b F.ends I to_none
-              ∙ sym (fault-is ∙ ap (λ (p : Bool). cond p 0 (bondJudged (length d.kinds) (heavies d bs) b)) to_none)
+              ap (bond_judged (size d) (linked d bs)) c_is ∙ linked-judged d bs b F.ends I to_none
+              ∙ sym (fault_is ∙ ap (λ (p : Bool). cond p 0 (bond_judged (length d.kinds) (heavies d bs) b)) to_none)
 
-          linked-fault : r ≡ faultAt d k
-          linked-fault = P.judged u w ∙ tested-is ∙ judged
+          linked-fault : r ≡ fault_at d k
+          linked-fault = P.judged u w ∙ tested_is ∙ judged
 
           linked-next : r ≡ 0 → FoldedTo d (changed t R hs) (set (set marks i 1) j 1) (k + 1)
           linked-next e =
               let passes = judged ∙ sym linked-fault ∙ e in
               let J = bonded-joinable (size d) (linked d bs) t F.rows c passes in
               let put = P.bond u w e in
-              let more = bond-joins (arraysOf t) F.rows.tidy x y code J R put.0 in
+              let more = bond-joins (arrays_of t) F.rows.tidy x y code J R put.0 in
               folded-next (sym linked-fault ∙ e)
-              (subst (λ (l : List Bond). Bonded (size d) l (changed t R hs)) (ap (λ (m : Bond). linked d bs ++ (m ∷ [])) c-is ∙ sym (linked-hit d bs b to_none))
+              (subst (λ (l : List Bond). Bonded (size d) l (changed t R hs)) (ap (λ (m : Bond). linked d bs ++ (m ∷ [])) c_is ∙ sym (linked-hit d bs b to_none))
               (subst (λ (g : List ℕ). Bonded (size d) (linked d bs ++ (c ∷ [])) (changed t R g)) (sym put.1)
               (bonded-next (size d) (linked d bs) t F.rows c passes (rowed t R) more.0 more.1)))
               (λ a l.
-              let n : count (map (hydrogenOf d (place d a)) bs) ≡ count (map (hydrogenOf d (place d a)) bs) + 0 = omega arith in
+              let n : count (map (hydrogen_of d (place d a)) bs) ≡ count (map (hydrogen_of d (place d a)) bs) + 0 = omega arith in
               ap (λ (g : List ℕ). get_or g a 0) put.1 ∙ F.hydrogens a l
-              ∙ ap capped (n ∙ ap (λ (p : Bool). count (map (hydrogenOf d (place d a)) bs) + cond p 1 0) (sym (ap (λ (p : Bool). on (place d a) b && p) to_none ∙ and-false (on (place d a) b))) ∙ sym (hydrogens-next a)))
+              ∙ ap capped (n ∙ ap (λ (p : Bool). count (map (hydrogen_of d (place d a)) bs) + cond p 1 0) (sym (ap (λ (p : Bool). on (place d a) b && p) to_none ∙ and-false (on (place d a) b))) ∙ sym (hydrogens-next a)))
 
-        fault-by : Dec (get_or kinds i 0 ≡ 0) → Dec (get_or kinds j 0 ≡ 0) → r ≡ faultAt d k
-        fault-by (yes e) f = (P.one e).none ∙ sym (fault-none (to_one e))
-        fault-by (no e) (yes f) = (P.two e f).none ∙ sym (fault-none (to-two f))
-        fault-by (no e) (no f) = linked-fault e f
+        fault_by : Dec (get_or kinds i 0 ≡ 0) → Dec (get_or kinds j 0 ≡ 0) → r ≡ fault_at d k
+        fault_by (yes e) f = (P.one e).none ∙ sym (fault_none (to_one e))
+        fault_by (no e) (yes f) = (P.two e f).none ∙ sym (fault_none (to-two f))
+        fault_by (no e) (no f) = linked-fault e f
 
-        step-fault : r ≡ faultAt d k
-        step-fault = fault-by (ℕ_discrete (get_or kinds i 0) 0) (ℕ_discrete (get_or kinds j 0) 0)
+        step_fault : r ≡ fault_at d k
+        step_fault = fault_by (ℕ_discrete (get_or kinds i 0) 0) (ℕ_discrete (get_or kinds j 0) 0)
 
-        pub step-wrong : r ≢ 0 → r ≡ bondsFault d
-        step-wrong n = step-fault ∙ sym (F.rest ∙ rest-stop (faultAt d) (length d.bonds) k h (λ q. n (step-fault ∙ q)))
+        pub step_wrong : r ≢ 0 → r ≡ bonds_fault d
+        step_wrong n = step_fault ∙ sym (F.rest ∙ rest_stop (fault_at d) (length d.bonds) k h (λ q. n (step_fault ∙ q)))
 
         next-by : r ≡ 0 → Dec (get_or kinds i 0 ≡ 0) → Dec (get_or kinds j 0 ≡ 0) → FoldedTo d (changed t R hs) (set (set marks i 1) j 1) (k + 1)
-        next-by n (yes e) f = unlinked-next j y (heavy-two e) ey (to_one e) (only_two e) (P.one e)
-        next-by n (no e) (yes f) = unlinked-next i x (heavy-one f) ex (to-two f) (only_one f) (P.two e f)
+        next-by n (yes e) f = unlinked_next j y (heavy-two e) ey (to_one e) (only_two e) (P.one e)
+        next-by n (no e) (yes f) = unlinked_next i x (heavy-one f) ex (to-two f) (only_one f) (P.two e f)
         next-by n (no e) (no f) = linked-next e f n
 
-        pub step-next : r ≡ 0 → FoldedTo d (changed t R hs) (set (set marks i 1) j 1) (k + 1)
-        step-next n = next-by n (ℕ_discrete (get_or kinds i 0) 0) (ℕ_discrete (get_or kinds j 0) 0)
+        pub step_next : r ≡ 0 → FoldedTo d (changed t R hs) (set (set marks i 1) j 1) (k + 1)
+        step_next n = next-by n (ℕ_discrete (get_or kinds i 0) 0) (ℕ_discrete (get_or kinds j 0) 0)

@@ -3,7 +3,7 @@ use Rattle.std.specs.Prelude.{Bool, cond, not, ◌&&◌, ◌||◌, List, map, �
 use Rattle.lists.specs.Upto.{each, sum}
 use Rattle.lists.specs.Tests.{count, some}
 use Rattle.molecule.specs.Bonds.{Bond}
-use Rattle.molecule.specs.Refusals.{firstFault}
+use Rattle.molecule.specs.Refusals.{first_fault}
 
 -- the array has the kinds of so many atoms
 pub record HasAtoms (kinds : List ℕ) (atoms : ℕ) : Type 0 where
@@ -15,48 +15,48 @@ pub record Bit (b : Bool) (r : ℕ) : Type 0 where
   pub small : r ≤ 1
 
 -- an H that is there
-abbrev pub isHIn : (kinds : List ℕ) → ℕ → Bool
-isHIn kinds p = eqb (get_or kinds p 25) 0
+abbrev pub is_h_in : (kinds : List ℕ) → ℕ → Bool
+is_h_in kinds p = eqb (get_or kinds p 25) 0
 
 -- "the limits on atoms and bonds leave out H and its bonds"
-abbrev pub heavyIn : (kinds : List ℕ) → ℕ
-heavyIn kinds = count (map (λ k. not (eqb k 0)) kinds)
+abbrev pub heavy_in : (kinds : List ℕ) → ℕ
+heavy_in kinds = count (map (λ k. not (eqb k 0)) kinds)
 
-abbrev pub heavyBondsIn : (kinds one two : List ℕ) → (bonds : ℕ) → ℕ
-heavyBondsIn kinds one two bonds = count (each bonds (λ k. not (isHIn kinds (get_or one k 0) || isHIn kinds (get_or two k 0))))
+abbrev pub heavy_bonds_in : (kinds one two : List ℕ) → (bonds : ℕ) → ℕ
+heavy_bonds_in kinds one two bonds = count (each bonds (λ k. not (is_h_in kinds (get_or one k 0) || is_h_in kinds (get_or two k 0))))
 
 -- "H alone is 1"
-abbrev pub countsTested : (atoms bonds : ℕ) → ℕ
-countsTested atoms bonds = cond (eqb atoms 0) 1 (cond (ltb 64 atoms || ltb 80 bonds) 4 0)
+abbrev pub counts_tested : (atoms bonds : ℕ) → ℕ
+counts_tested atoms bonds = cond (eqb atoms 0) 1 (cond (ltb 64 atoms || ltb 80 bonds) 4 0)
 
 -- "anything but H and the 24 is 3 in its turn"
-abbrev pub unknownTested : (kinds : List ℕ) → ℕ
-unknownTested kinds = firstFault (map (λ k. cond (ltb 24 k) 3 0) kinds)
+abbrev pub unknown_tested : (kinds : List ℕ) → ℕ
+unknown_tested kinds = first_fault (map (λ k. cond (ltb 24 k) 3 0) kinds)
 
 -- "7 for a bond with an H at an end: the other end is H (itself included), the code is not 1, or that H has a bond already."
-abbrev pub hTested : (other used code : ℕ) → ℕ
-hTested other used code = cond (eqb other 0 || not (eqb code 1) || not (eqb used 0)) 7 0
+abbrev pub h_tested : (other used code : ℕ) → ℕ
+h_tested other used code = cond (eqb other 0 || not (eqb code 1) || not (eqb used 0)) 7 0
 
 -- 5, then 7: `used` marks the atoms that have a bond
-unfoldable pub endsTested : (kinds used : List ℕ) → (atoms : ℕ) → Bond → ℕ
-endsTested kinds used atoms b =
+unfoldable pub ends_tested : (kinds used : List ℕ) → (atoms : ℕ) → Bond → ℕ
+ends_tested kinds used atoms b =
     cond (leb atoms b.one || leb atoms b.two) 5
-    (cond (eqb (get_or kinds b.one 0) 0) (hTested (get_or kinds b.two 0) (get_or used b.one 0) b.code)
-    (cond (eqb (get_or kinds b.two 0) 0) (hTested (get_or kinds b.one 0) (get_or used b.two 0) b.code) 0))
+    (cond (eqb (get_or kinds b.one 0) 0) (h_tested (get_or kinds b.two 0) (get_or used b.one 0) b.code)
+    (cond (eqb (get_or kinds b.two 0) 0) (h_tested (get_or kinds b.one 0) (get_or used b.two 0) b.code) 0))
 
 -- "0 to 4 hydrogens", and codes 1 to 4: what is over 4 need not be told apart
 abbrev pub capped : ℕ → ℕ
 capped h = cond (ltb 4 h) 5 h
 
 -- one more, where no more than one over 4 is counted
-abbrev pub oneMore : ℕ → ℕ
-oneMore h = cond (ltb 4 h) h (h + 1)
+abbrev pub one_more : ℕ → ℕ
+one_more h = cond (ltb 4 h) h (h + 1)
 
 -- "an H without a bond"
-abbrev pub loneIn : (kinds used : List ℕ) → (atoms : ℕ) → Bool
-loneIn kinds used atoms = some (each atoms (λ p. eqb (get_or kinds p 0) 0 && eqb (get_or used p 0) 0))
+abbrev pub lone_in : (kinds used : List ℕ) → (atoms : ℕ) → Bool
+lone_in kinds used atoms = some (each atoms (λ p. eqb (get_or kinds p 0) 0 && eqb (get_or used p 0) 0))
 
 -- "hydrogens on one atom and their total are 4"
-abbrev pub hydrogensTested : (hydrogens : List ℕ) → (n : ℕ) → ℕ
-hydrogensTested hydrogens n =
+abbrev pub hydrogens_tested : (hydrogens : List ℕ) → (n : ℕ) → ℕ
+hydrogens_tested hydrogens n =
     cond (some (each n (λ a. ltb 4 (get_or hydrogens a 0))) || ltb 128 (sum (each n (λ a. get_or hydrogens a 0)))) 4 0

@@ -1,6 +1,6 @@
 // The atoms of a drawing that are no H.
 ghost use Rattle.std.specs.Prelude.{◌≡◌, ◌<◌, ◌≤◌, take};
-ghost use Rattle.drawing.specs.Tests.{HasAtoms, heavyIn};
+ghost use Rattle.drawing.specs.Tests.{HasAtoms, heavy_in};
 ghost use Rattle.drawing.specs.Folding.{KindPut, Bares};
 
 use super::Limits;
@@ -33,7 +33,7 @@ fn put_kind(kinds: &mut [u8; Table::MAX_ATOMS], n: usize, kind: u8) -> usize
 }
 
 pub fn bare_atoms(kinds: &[u8; Limits::ATOMS], atoms: usize) -> Bare
-    requires { HasAtoms kinds.now atoms × (heavyIn (take atoms kinds.now) ≤ 64) }
+    requires { HasAtoms kinds.now atoms × (heavy_in (take atoms kinds.now) ≤ 64) }
     ensures { Bares (take atoms kinds.now) result }
 {
     let mut own = [0u8; Table::MAX_ATOMS];

@@ -1,8 +1,8 @@
 // The bonds of a drawing: a bond to an H is a hydrogen of its other end, any other a bond of the table.
 ghost use Rattle.std.specs.Prelude.{◌≡◌, ℕ, ◌<◌, ◌≤◌, length, get_or, take, set};
-ghost use Rattle.table.specs.Changes.{bondOf};
-ghost use Rattle.drawing.specs.View.{drawingIn};
-ghost use Rattle.drawing.specs.Tests.{HasAtoms, hTested, endsTested, capped, oneMore};
+ghost use Rattle.table.specs.Changes.{bond_of};
+ghost use Rattle.drawing.specs.View.{drawing_in};
+ghost use Rattle.drawing.specs.Tests.{HasAtoms, h_tested, ends_tested, capped, one_more};
 ghost use Rattle.drawing.specs.Folding.{Linkable, Linked, Foldable, BondFolded, Bares, BondsFolded};
 
 use super::atoms::Bare;
@@ -11,7 +11,7 @@ use table::{AtomNo, Table, rows};
 
 // 7 for an H that is bonded to an H, by a code other than 1, or has a bond already.
 fn h_fault(other: u8, used: u8, code: u16) -> u8
-    ensures { result ≡ hTested other used code }
+    ensures { result ≡ h_tested other used code }
 {
     if other == 0 {
         return 7;
@@ -35,7 +35,7 @@ fn ends_fault<'a>(
     code: u16,
 ) -> u8
     requires { atoms ≤ 999 }
-    ensures { result ≡ endsTested kinds.now used.now atoms (bondOf i j code) }
+    ensures { result ≡ ends_tested kinds.now used.now atoms (bond_of i j code) }
 {
     if atoms <= i {
         return 5;
@@ -54,7 +54,7 @@ fn ends_fault<'a>(
 
 // One hydrogen more. What is over the limit need not be counted on.
 fn one_more(hydrogens: u8) -> u8
-    ensures { result ≡ oneMore hydrogens }
+    ensures { result ≡ one_more hydrogens }
 {
     if Table::MAX_HYDROGENS_ON < wide(hydrogens) {
         return hydrogens;
@@ -64,7 +64,7 @@ fn one_more(hydrogens: u8) -> u8
 
 fn count_hydrogen(hydrogens: &mut [u8; Table::MAX_ATOMS], a: AtomNo)
     requires { a.0 < 64 }
-    ensures { hydrogens.new ≡ set hydrogens.old a.0 (oneMore (get_or hydrogens.old a.0 0)) }
+    ensures { hydrogens.new ≡ set hydrogens.old a.0 (one_more (get_or hydrogens.old a.0 0)) }
 {
     let i = a.0 as usize;
     hydrogens[i] = one_more(hydrogens[i]);
@@ -93,8 +93,8 @@ fn put_link(
     b: AtomNo,
     code: u16,
 ) -> u8
-    requires { Linkable n (record { degrees = degrees.now; near = near.old; codes = codes.old }) kind other (bondOf a.0 b.0 code) }
-    ensures { Linked n (record { degrees = degrees.entry.now; near = near.old; codes = codes.old }) hydrogens.old kind other (bondOf a.0 b.0 code) result (record { degrees = degrees.exit.now; near = near.new; codes = codes.new }) hydrogens.new }
+    requires { Linkable n (record { degrees = degrees.now; near = near.old; codes = codes.old }) kind other (bond_of a.0 b.0 code) }
+    ensures { Linked n (record { degrees = degrees.entry.now; near = near.old; codes = codes.old }) hydrogens.old kind other (bond_of a.0 b.0 code) result (record { degrees = degrees.exit.now; near = near.new; codes = codes.new }) hydrogens.new }
 {
     if kind == 0 {
         count_hydrogen(hydrogens, b);
@@ -128,8 +128,8 @@ fn fold_bond<'a>(
     j: usize,
     code: u16,
 ) -> u8
-    requires { Foldable kinds.now numbers.now atoms n used.old (record { degrees = degrees.now; near = near.old; codes = codes.old }) (bondOf i j code) }
-    ensures { BondFolded kinds.now numbers.now atoms n used.old (record { degrees = degrees.entry.now; near = near.old; codes = codes.old }) hydrogens.old (bondOf i j code) result used.new (record { degrees = degrees.exit.now; near = near.new; codes = codes.new }) hydrogens.new }
+    requires { Foldable kinds.now numbers.now atoms n used.old (record { degrees = degrees.now; near = near.old; codes = codes.old }) (bond_of i j code) }
+    ensures { BondFolded kinds.now numbers.now atoms n used.old (record { degrees = degrees.entry.now; near = near.old; codes = codes.old }) hydrogens.old (bond_of i j code) result used.new (record { degrees = degrees.exit.now; near = near.new; codes = codes.new }) hydrogens.new }
 {
     let absent = ends_fault(kinds, used, atoms, i, j, code);
     if absent != 0 {
@@ -160,7 +160,7 @@ pub fn fold_bonds<'a>(
     used: &mut [u8; Limits::ATOMS],
 ) -> Folded
     requires { HasAtoms kinds.now atoms × (bonds ≤ 999) × Bares (take atoms kinds.now) bare × (length used.old ≡ 999) × ((p : ℕ) → p < 999 → get_or used.old p 0 ≡ 0) }
-    ensures { BondsFolded (drawingIn kinds.now one.now two.now codes.now atoms bonds) used.new result }
+    ensures { BondsFolded (drawing_in kinds.now one.now two.now codes.now atoms bonds) used.new result }
 {
     let numbers = bare.numbers;
     let t = bare.table;

@@ -1,6 +1,6 @@
 // How many atoms and bonds count, and whether every symbol is known.
 ghost use Rattle.std.specs.Prelude.{not, ◌||◌, ◌≡◌, ◌≤◌, eqb, take};
-ghost use Rattle.drawing.specs.Tests.{HasAtoms, Bit, isHIn, heavyIn, heavyBondsIn, countsTested, unknownTested};
+ghost use Rattle.drawing.specs.Tests.{HasAtoms, Bit, is_h_in, heavy_in, heavy_bonds_in, counts_tested, unknown_tested};
 
 use super::{Limits, far};
 
@@ -16,7 +16,7 @@ fn heavy(kind: u8) -> usize
 
 fn heavy_atoms(kinds: &[u8; Limits::ATOMS], atoms: usize) -> usize
     requires { HasAtoms kinds.now atoms }
-    ensures { result ≡ heavyIn (take atoms kinds.now) }
+    ensures { result ≡ heavy_in (take atoms kinds.now) }
 {
     let mut n: usize = 0;
     let mut p: usize = 0;
@@ -30,7 +30,7 @@ fn heavy_atoms(kinds: &[u8; Limits::ATOMS], atoms: usize) -> usize
 // Whether p is an atom of the drawing and an H.
 fn is_h(kinds: &[u8; Limits::ATOMS], atoms: usize, p: usize) -> bool
     requires { HasAtoms kinds.now atoms }
-    ensures { result ≡ isHIn (take atoms kinds.now) p }
+    ensures { result ≡ is_h_in (take atoms kinds.now) p }
 {
     if atoms <= p {
         return false;
@@ -41,7 +41,7 @@ fn is_h(kinds: &[u8; Limits::ATOMS], atoms: usize, p: usize) -> bool
 // 1 for a bond without an H end.
 fn heavy_bond(kinds: &[u8; Limits::ATOMS], atoms: usize, i: usize, j: usize) -> usize
     requires { HasAtoms kinds.now atoms }
-    ensures { Bit (not (isHIn (take atoms kinds.now) i || isHIn (take atoms kinds.now) j)) result }
+    ensures { Bit (not (is_h_in (take atoms kinds.now) i || is_h_in (take atoms kinds.now) j)) result }
 {
     if is_h(kinds, atoms, i) {
         return 0;
@@ -60,7 +60,7 @@ fn heavy_bonds<'a>(
     bonds: usize,
 ) -> usize
     requires { HasAtoms kinds.now atoms × (bonds ≤ 999) }
-    ensures { result ≡ heavyBondsIn (take atoms kinds.now) one.now two.now bonds }
+    ensures { result ≡ heavy_bonds_in (take atoms kinds.now) one.now two.now bonds }
 {
     let mut n: usize = 0;
     let mut k: usize = 0;
@@ -80,7 +80,7 @@ pub fn counts_fault<'a>(
     bonds: usize,
 ) -> u8
     requires { HasAtoms kinds.now atoms × (bonds ≤ 999) }
-    ensures { result ≡ countsTested (heavyIn (take atoms kinds.now)) (heavyBondsIn (take atoms kinds.now) one.now two.now bonds) }
+    ensures { result ≡ counts_tested (heavy_in (take atoms kinds.now)) (heavy_bonds_in (take atoms kinds.now) one.now two.now bonds) }
 {
     let n = heavy_atoms(kinds, atoms);
     let m = heavy_bonds(kinds, one, two, atoms, bonds);
@@ -90,7 +90,7 @@ pub fn counts_fault<'a>(
 // 3 for an atom with no symbol of the table.
 pub fn kinds_fault(kinds: &[u8; Limits::ATOMS], atoms: usize) -> u8
     requires { HasAtoms kinds.now atoms }
-    ensures { result ≡ unknownTested (take atoms kinds.now) }
+    ensures { result ≡ unknown_tested (take atoms kinds.now) }
 {
     let mut p: usize = 0;
     while p < atoms {

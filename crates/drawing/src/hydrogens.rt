@@ -1,6 +1,6 @@
 // What is judged of the hydrogens once every bond is folded.
 ghost use Rattle.std.specs.Prelude.{◌&&◌, ◌≡◌, ◌≤◌, eqb};
-ghost use Rattle.drawing.specs.Tests.{loneIn, hydrogensTested};
+ghost use Rattle.drawing.specs.Tests.{lone_in, hydrogens_tested};
 
 use super::{Limits, wide};
 use table::Table;
@@ -21,7 +21,7 @@ pub fn lone_h<'a>(
     atoms: usize,
 ) -> bool
     requires { atoms ≤ 999 }
-    ensures { result ≡ loneIn kinds.now used.now atoms }
+    ensures { result ≡ lone_in kinds.now used.now atoms }
 {
     let mut p: usize = 0;
     while p < atoms {
@@ -36,7 +36,7 @@ pub fn lone_h<'a>(
 // 4 for hydrogens on one atom, or for their total.
 pub fn hydrogens_fault(hydrogens: &[u8; Table::MAX_ATOMS], n: usize) -> u8
     requires { n ≤ 64 }
-    ensures { result ≡ hydrogensTested hydrogens.now n }
+    ensures { result ≡ hydrogens_tested hydrogens.now n }
 {
     let mut total: usize = 0;
     let mut a: usize = 0;

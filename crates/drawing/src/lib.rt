@@ -1,7 +1,9 @@
 // A molfile's drawing, in arrays, judged and folded into a table.
+#![tactic(auto)]
+
 ghost use Rattle.std.specs.Prelude.{◌≡◌, ◌≤◌, ◌<◌, length};
 ghost use Rattle.table.specs.View.{TidyTable, EvenTable};
-ghost use Rattle.drawing.specs.View.{drawingIn};
+ghost use Rattle.drawing.specs.View.{drawing_in};
 ghost use Rattle.drawing.specs.Folding.{IsFolded, Finished};
 
 use table::Table;
@@ -85,7 +87,7 @@ pub fn judged<'a>(
     bonds: usize,
 ) -> Folded
     requires { (atoms ≤ 999) × (bonds ≤ 999) × (length kinds.now ≡ 999) }
-    ensures { IsFolded (drawingIn kinds.now one.now two.now codes.now atoms bonds) result }
+    ensures { IsFolded (drawing_in kinds.now one.now two.now codes.now atoms bonds) result }
 {
     let counts = counts::counts_fault(kinds, one, two, atoms, bonds);
     if counts != 0 {

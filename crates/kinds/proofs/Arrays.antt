@@ -14,9 +14,9 @@ use Rattle.lists.specs.Tests.{every, find}
 use Rattle.lists.specs.Order.{lex}
 use Rattle.lists.proofs.Order.{number-order, lex-order}
 use Rattle.lists.proofs.Booleans.{and_both}
-use Rattle.lists.proofs.Tested.{every-true-below}
-use Rattle.molecule.specs.Kinds.{kinds, symbol_of, number_of, kindOfSymbol, kindOfNumber}
-use Rattle.molecule.proofs.KindsTable.{symbolOf-kindOfSymbol, kindOfSymbol-symbolOf, numberOf-kindOfNumber}
+use Rattle.lists.proofs.Tested.{every-true_below}
+use Rattle.molecule.specs.Kinds.{kinds, symbol_of, number_of, kind_of_symbol, kind_of_number}
+use Rattle.molecule.proofs.KindsTable.{symbol_of-kind_of_symbol, kind_of_symbol-symbol_of, number_of-kind_of_number}
 
 unfoldable pub numbers : List ℕ
 numbers =
@@ -40,34 +40,34 @@ by_number =
     ∷ 25 ∷ 25 ∷ 25 ∷ 25 ∷ 25 ∷ 25 ∷ 25 ∷ 25 ∷ 4 ∷ 9 ∷ 14 ∷ 18 ∷ 25 ∷ 25 ∷ 25 ∷ 25 ∷ 25 ∷ 25 ∷ 25 ∷ 25 ∷ 25
     ∷ 25 ∷ 25 ∷ 25 ∷ 25 ∷ 25 ∷ 25 ∷ 25 ∷ 25 ∷ 25 ∷ 25 ∷ 25 ∷ 25 ∷ 25 ∷ 25 ∷ 25 ∷ 25 ∷ 25 ∷ 25 ∷ 25 ∷ 5 ∷ 10 ∷ []
 
-unfoldable pub by-capital : List ℕ
-by-capital =
+unfoldable pub by_capital : List ℕ
+by_capital =
     25 ∷ 19 ∷ 1 ∷ 25 ∷ 25 ∷ 15 ∷ 25 ∷ 0 ∷ 18 ∷ 25 ∷ 23 ∷ 25 ∷ 25 ∷ 6 ∷ 11 ∷ 7 ∷ 25 ∷ 25 ∷ 12 ∷ 25 ∷ 25
     ∷ 25 ∷ 25 ∷ 25 ∷ 25 ∷ 25 ∷ []
 
-all-numbers : every (each 25 (λ k. eqb (get_or numbers k 0) (number_of k))) ≡ true
+all_numbers : every (each 25 (λ k. eqb (get_or numbers k 0) (number_of k))) ≡ true
 unfolding every each from kinds number_of numbers
-all-numbers = refl
+all_numbers = refl
 
 pub number-at : (k : ℕ) → k ≤ 24 → get_or numbers k 0 ≡ number_of k
-number-at k h = eqb-true _ _ (every-true-below 25 (λ k. eqb (get_or numbers k 0) (number_of k)) all-numbers k (omega arith))
+number-at k h = eqb-true _ _ (every-true_below 25 (λ k. eqb (get_or numbers k 0) (number_of k)) all_numbers k (omega arith))
 
-all_kinds : every (each 84 (λ z. eqb (get_or by_number z 0) (kindOfNumber z))) ≡ true
-unfolding every each from kinds kindOfNumber by_number
+all_kinds : every (each 84 (λ z. eqb (get_or by_number z 0) (kind_of_number z))) ≡ true
+unfolding every each from kinds kind_of_number by_number
 all_kinds = refl
 
-pub kind-at : (z : ℕ) → z ≤ 83 → get_or by_number z 0 ≡ kindOfNumber z
-kind-at z h = eqb-true _ _ (every-true-below 84 (λ z. eqb (get_or by_number z 0) (kindOfNumber z)) all_kinds z (omega arith))
+pub kind-at : (z : ℕ) → z ≤ 83 → get_or by_number z 0 ≡ kind_of_number z
+kind-at z h = eqb-true _ _ (every-true_below 84 (λ z. eqb (get_or by_number z 0) (kind_of_number z)) all_kinds z (omega arith))
 
-all-letters : every (each 26 (λ i. eqb (get_or by-capital i 0) (kindOfSymbol ((65 + i) ∷ [])))) ≡ true
-unfolding every each from kinds kindOfSymbol lex by-capital
-all-letters = refl
+all_letters : every (each 26 (λ i. eqb (get_or by_capital i 0) (kind_of_symbol ((65 + i) ∷ [])))) ≡ true
+unfolding every each from kinds kind_of_symbol lex by_capital
+all_letters = refl
 
-pub capital-at : (c : ℕ) → 65 ≤ c → c ≤ 90 → get_or by-capital (c - 65) 0 ≡ kindOfSymbol (c ∷ [])
-capital-at c h k =
+pub capital_at : (c : ℕ) → 65 ≤ c → c ≤ 90 → get_or by_capital (c - 65) 0 ≡ kind_of_symbol (c ∷ [])
+capital_at c h k =
     let e : 65 + (c - 65) ≡ c = omega arith in
-    eqb-true _ _ (every-true-below 26 (λ i. eqb (get_or by-capital i 0) (kindOfSymbol ((65 + i) ∷ []))) all-letters (c - 65) (omega arith))
-    ∙ ap (λ (x : ℕ). kindOfSymbol (x ∷ [])) e
+    eqb-true _ _ (every-true_below 26 (λ i. eqb (get_or by_capital i 0) (kind_of_symbol ((65 + i) ∷ []))) all_letters (c - 65) (omega arith))
+    ∙ ap (λ (x : ℕ). kind_of_symbol (x ∷ [])) e
 
 -- the symbol of the letters in the arrays
 abbrev letters : ℕ → ℕ → List ℕ
@@ -78,34 +78,34 @@ is_eq Ordering.lt e = cc
 is_eq Ordering.eq e = refl
 is_eq Ordering.gt e = cc
 
-all-symbols : every (each 25 (λ k. compare_is_eq (lex compare (symbol_of k) (letters (get_or capitals k 0) (get_or smalls k 0))))) ≡ true
+all_symbols : every (each 25 (λ k. compare_is_eq (lex compare (symbol_of k) (letters (get_or capitals k 0) (get_or smalls k 0))))) ≡ true
 unfolding every each from kinds symbol_of lex capitals smalls
-all-symbols = refl
+all_symbols = refl
 
 symbol-at : (k : ℕ) → k ≤ 24 → symbol_of k ≡ letters (get_or capitals k 0) (get_or smalls k 0)
 symbol-at k h =
     (lex-order number-order).same _ _
-    (is_eq _ (every-true-below 25 (λ k. compare_is_eq (lex compare (symbol_of k) (letters (get_or capitals k 0) (get_or smalls k 0)))) all-symbols k (omega arith)))
+    (is_eq _ (every-true_below 25 (λ k. compare_is_eq (lex compare (symbol_of k) (letters (get_or capitals k 0) (get_or smalls k 0)))) all_symbols k (omega arith)))
 
-letters-first : (c d : ℕ) → get_or (letters c d) 0 0 ≡ c
-letters-first c d = go (eqb d 0)
+letters_first : (c d : ℕ) → get_or (letters c d) 0 0 ≡ c
+letters_first c d = go (eqb d 0)
   where
     go : (s : Bool) → get_or (cond s (c ∷ []) (c ∷ d ∷ [])) 0 0 ≡ c
     go true = refl
     go false = refl
 
-letters-second : (c d : ℕ) → get_or (letters c d) 1 0 ≡ d
-letters-second c d = go (eqb d 0) refl
+letters_second : (c d : ℕ) → get_or (letters c d) 1 0 ≡ d
+letters_second c d = go (eqb d 0) refl
   where
     go : (s : Bool) → eqb d 0 ≡ s → get_or (cond s (c ∷ []) (c ∷ d ∷ [])) 1 0 ≡ d
     go true e = sym (eqb-true d 0 e)
     go false e = refl
 
 pub first-at : (k : ℕ) → k ≤ 24 → get_or capitals k 0 ≡ get_or (symbol_of k) 0 0
-first-at k h = sym (ap (λ (l : List ℕ). get_or l 0 0) (symbol-at k h) ∙ letters-first (get_or capitals k 0) (get_or smalls k 0))
+first-at k h = sym (ap (λ (l : List ℕ). get_or l 0 0) (symbol-at k h) ∙ letters_first (get_or capitals k 0) (get_or smalls k 0))
 
 pub second_at : (k : ℕ) → k ≤ 24 → get_or smalls k 0 ≡ get_or (symbol_of k) 1 0
-second_at k h = sym (ap (λ (l : List ℕ). get_or l 1 0) (symbol-at k h) ∙ letters-second (get_or capitals k 0) (get_or smalls k 0))
+second_at k h = sym (ap (λ (l : List ℕ). get_or l 1 0) (symbol-at k h) ∙ letters_second (get_or capitals k 0) (get_or smalls k 0))
 
 -- What is not in the table is kind 25: a kind below that would have the number or the symbol.
 
@@ -117,19 +117,19 @@ find-le p (x ∷ l) = go (p x) (find-le p l)
     go true h = omega arith
     go false h = omega arith
 
-unknown-number : (z : ℕ) → (kindOfNumber z ≤ 24 → ⊥) → kindOfNumber z ≡ 25
-unfolding kindOfNumber kinds
-unknown-number z h = go (dec_lt (kindOfNumber z) 25)
+unknown-number : (z : ℕ) → (kind_of_number z ≤ 24 → ⊥) → kind_of_number z ≡ 25
+unfolding kind_of_number kinds
+unknown-number z h = go (dec_lt (kind_of_number z) 25)
   where
-    go : Dec (kindOfNumber z < 25) → kindOfNumber z ≡ 25
+    go : Dec (kind_of_number z < 25) → kind_of_number z ≡ 25
     go (yes l) = absurd (h (omega arith))
     go (no l) = omega (arith, find-le (λ e. eqb e.number z) kinds)
 
-unknown-symbol : (s : List ℕ) → (kindOfSymbol s ≤ 24 → ⊥) → kindOfSymbol s ≡ 25
-unfolding kindOfSymbol kinds
-unknown-symbol s h = go (dec_lt (kindOfSymbol s) 25)
+unknown-symbol : (s : List ℕ) → (kind_of_symbol s ≤ 24 → ⊥) → kind_of_symbol s ≡ 25
+unfolding kind_of_symbol kinds
+unknown-symbol s h = go (dec_lt (kind_of_symbol s) 25)
   where
-    go : Dec (kindOfSymbol s < 25) → kindOfSymbol s ≡ 25
+    go : Dec (kind_of_symbol s < 25) → kind_of_symbol s ≡ 25
     go (yes l) = absurd (h (omega arith))
     go (no l) = omega (arith, find-le (λ e. compare_is_eq (lex compare e.symbol s)) kinds)
 
@@ -137,51 +137,51 @@ low-numbers : every (each 25 (λ k. leb (number_of k) 83)) ≡ true
 unfolding every each from kinds number_of
 low-numbers = refl
 
-pub no_number : (z : ℕ) → 83 < z → kindOfNumber z ≡ 25
+pub no_number : (z : ℕ) → 83 < z → kind_of_number z ≡ 25
 no_number z h =
     unknown-number z
     (λ l.
-    let e = numberOf-kindOfNumber z l in
-    omega (arith, leb-true (number_of (kindOfNumber z)) 83 (every-true-below 25 (λ k. leb (number_of k) 83) low-numbers (kindOfNumber z) (omega arith))))
+    let e = number_of-kind_of_number z l in
+    omega (arith, leb-true (number_of (kind_of_number z)) 83 (every-true_below 25 (λ k. leb (number_of k) 83) low-numbers (kind_of_number z) (omega arith))))
 
-all-capitals : every (each 25 (λ k. leb 65 (get_or capitals k 0) && leb (get_or capitals k 0) 90)) ≡ true
+all_capitals : every (each 25 (λ k. leb 65 (get_or capitals k 0) && leb (get_or capitals k 0) 90)) ≡ true
 unfolding every each from capitals
-all-capitals = refl
+all_capitals = refl
 
 -- a symbol begins with a capital
-pub no-capital : (c : ℕ) (s : List ℕ) → (65 ≤ c → c ≤ 90 → ⊥) → kindOfSymbol (c ∷ s) ≡ 25
-no-capital c s h =
+pub no_capital : (c : ℕ) (s : List ℕ) → (65 ≤ c → c ≤ 90 → ⊥) → kind_of_symbol (c ∷ s) ≡ 25
+no_capital c s h =
     unknown-symbol (c ∷ s)
     (λ l.
-    let e = first-at (kindOfSymbol (c ∷ s)) l ∙ ap (λ (r : List ℕ). get_or r 0 0) (symbolOf-kindOfSymbol (c ∷ s) l) in
+    let e = first-at (kind_of_symbol (c ∷ s)) l ∙ ap (λ (r : List ℕ). get_or r 0 0) (symbol_of-kind_of_symbol (c ∷ s) l) in
     let w =
-    and_both (leb 65 (get_or capitals (kindOfSymbol (c ∷ s)) 0)) (leb (get_or capitals (kindOfSymbol (c ∷ s)) 0) 90)
-    (every-true-below 25 (λ k. leb 65 (get_or capitals k 0) && leb (get_or capitals k 0) 90) all-capitals (kindOfSymbol (c ∷ s)) (omega arith)) in
-    h (omega (arith, leb-true 65 (get_or capitals (kindOfSymbol (c ∷ s)) 0) w.0)) (omega (arith, leb-true (get_or capitals (kindOfSymbol (c ∷ s)) 0) 90 w.1)))
+    and_both (leb 65 (get_or capitals (kind_of_symbol (c ∷ s)) 0)) (leb (get_or capitals (kind_of_symbol (c ∷ s)) 0) 90)
+    (every-true_below 25 (λ k. leb 65 (get_or capitals k 0) && leb (get_or capitals k 0) 90) all_capitals (kind_of_symbol (c ∷ s)) (omega arith)) in
+    h (omega (arith, leb-true 65 (get_or capitals (kind_of_symbol (c ∷ s)) 0) w.0)) (omega (arith, leb-true (get_or capitals (kind_of_symbol (c ∷ s)) 0) 90 w.1)))
 
 module _ (c d : ℕ) where
-  pub letters-found : (k : ℕ) → k ≤ 24 → get_or capitals k 0 ≡ c → get_or smalls k 0 ≡ d → d ≢ 0 → kindOfSymbol (c ∷ d ∷ []) ≡ k
-  letters-found k h e f z =
+  pub letters_found : (k : ℕ) → k ≤ 24 → get_or capitals k 0 ≡ c → get_or smalls k 0 ≡ d → d ≢ 0 → kind_of_symbol (c ∷ d ∷ []) ≡ k
+  letters_found k h e f z =
       let two : letters c d ≡ c ∷ d ∷ [] = rw (ne_eqb d 0 z) in
       let s : symbol_of k ≡ c ∷ d ∷ [] = symbol-at k h ∙ ap₂ letters e f ∙ two in
-      ap kindOfSymbol (sym s) ∙ kindOfSymbol-symbolOf k h
+      ap kind_of_symbol (sym s) ∙ kind_of_symbol-symbol_of k h
 
-  pub letters-none : ((k : ℕ) → k < 25 → get_or capitals k 0 ≡ c → get_or smalls k 0 ≡ d → ⊥) → kindOfSymbol (c ∷ d ∷ []) ≡ 25
-  letters-none h =
+  pub letters_none : ((k : ℕ) → k < 25 → get_or capitals k 0 ≡ c → get_or smalls k 0 ≡ d → ⊥) → kind_of_symbol (c ∷ d ∷ []) ≡ 25
+  letters_none h =
       unknown-symbol (c ∷ d ∷ [])
       (λ k.
-      let e = symbolOf-kindOfSymbol (c ∷ d ∷ []) k in
-      h (kindOfSymbol (c ∷ d ∷ [])) (omega arith) (first-at (kindOfSymbol (c ∷ d ∷ [])) k ∙ ap (λ (r : List ℕ). get_or r 0 0) e)
-      (second_at (kindOfSymbol (c ∷ d ∷ [])) k ∙ ap (λ (r : List ℕ). get_or r 1 0) e))
+      let e = symbol_of-kind_of_symbol (c ∷ d ∷ []) k in
+      h (kind_of_symbol (c ∷ d ∷ [])) (omega arith) (first-at (kind_of_symbol (c ∷ d ∷ [])) k ∙ ap (λ (r : List ℕ). get_or r 0 0) e)
+      (second_at (kind_of_symbol (c ∷ d ∷ [])) k ∙ ap (λ (r : List ℕ). get_or r 1 0) e))
 
   -- a symbol of two letters has no 0 in the second place
-  pub no_second : d ≡ 0 → kindOfSymbol (c ∷ d ∷ []) ≡ 25
+  pub no_second : d ≡ 0 → kind_of_symbol (c ∷ d ∷ []) ≡ 25
   no_second z =
       unknown-symbol (c ∷ d ∷ [])
-      (λ k. one (get_or capitals (kindOfSymbol (c ∷ d ∷ [])) 0) (get_or smalls (kindOfSymbol (c ∷ d ∷ [])) 0) (sym (symbol-at (kindOfSymbol (c ∷ d ∷ [])) k) ∙ symbolOf-kindOfSymbol (c ∷ d ∷ []) k))
+      (λ k. one (get_or capitals (kind_of_symbol (c ∷ d ∷ [])) 0) (get_or smalls (kind_of_symbol (c ∷ d ∷ [])) 0) (sym (symbol-at (kind_of_symbol (c ∷ d ∷ [])) k) ∙ symbol_of-kind_of_symbol (c ∷ d ∷ []) k))
     where
       one : (x y : ℕ) → letters x y ≡ c ∷ d ∷ [] → ⊥
       one x y e =
-          let f : y ≡ 0 = sym (letters-second x y) ∙ ap (λ (r : List ℕ). get_or r 1 0) e ∙ z in
+          let f : y ≡ 0 = sym (letters_second x y) ∙ ap (λ (r : List ℕ). get_or r 1 0) e ∙ z in
           let g : letters x y ≡ x ∷ [] = rw (eq-eqb y 0 f) in
           omega (arith, ap length (sym g ∙ e))

@@ -1,7 +1,9 @@
 // The 24 kinds of document 01 in constant arrays: kind, symbol and atomic number looked up from each other.
 // Kind 0 is H, which occurs only in text, and 25 is the number of no kind.
+#![tactic(auto)]
+
 ghost use Rattle.std.specs.Prelude.{◌≡◌, [], ◌∷◌, ◌≤◌, get_or};
-ghost use Rattle.molecule.specs.Kinds.{symbol_of, number_of, kindOfSymbol, kindOfNumber};
+ghost use Rattle.molecule.specs.Kinds.{symbol_of, number_of, kind_of_symbol, kind_of_number};
 
 const COUNT: usize = 25;
 
@@ -51,7 +53,7 @@ pub fn number_of(kind: u8) -> u8
 }
 
 pub fn kind_of_number(number: u8) -> u8
-    ensures { result ≡ kindOfNumber number }
+    ensures { result ≡ kind_of_number number }
 {
     let z = wide(number);
     if 83 < z {
@@ -78,7 +80,7 @@ pub fn small_of(kind: u8) -> u8
 
 // The kind whose symbol is this letter alone.
 pub fn kind_of_capital(letter: u8) -> u8
-    ensures { result ≡ kindOfSymbol (letter ∷ []) }
+    ensures { result ≡ kind_of_symbol (letter ∷ []) }
 {
     if letter < b'A' {
         return NO_KIND;
@@ -91,7 +93,7 @@ pub fn kind_of_capital(letter: u8) -> u8
 
 // The kind whose symbol is these two letters.
 pub fn kind_of_letters(capital: u8, small: u8) -> u8
-    ensures { result ≡ kindOfSymbol (capital ∷ small ∷ []) }
+    ensures { result ≡ kind_of_symbol (capital ∷ small ∷ []) }
 {
     // 0 stands in the array where there is no second letter.
     if small == 0 {

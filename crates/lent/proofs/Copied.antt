@@ -14,8 +14,8 @@ copied_next b o i h k =
     ∙ set_at (take i b) (get_or o i 0) (drop (suc i) o) (get_or b i 0) i (length-take-le i b (omega arith))
     ∙ sym (append_snoc (take i b) (get_or b i 0) (drop (suc i) o)))
 
-pub copied-long : (b o : List ℕ) (i : ℕ) → i ≤ length b → i ≤ length o → length (take i b ++ drop i o) ≡ length o
-copied-long b o i h k = length-append (take i b) (drop i o) ∙ omega (arith, length-take-le i b h, length-drop i o)
+pub copied_long : (b o : List ℕ) (i : ℕ) → i ≤ length b → i ≤ length o → length (take i b ++ drop i o) ≡ length o
+copied_long b o i h k = length-append (take i b) (drop i o) ∙ omega (arith, length-take-le i b h, length-drop i o)
 
 pub copied_all : (b o : List ℕ) (i : ℕ) → i ≡ length b → take i b ++ drop i o ≡ b ++ drop (length b) o
 copied_all b o i e = rw e (ap (λ (l : List ℕ). l ++ drop (length b) o) (take-length b))

@@ -1,4 +1,6 @@
 // Writing bytes into a lent buffer: all of them or none.
+#![tactic(auto)]
+
 ghost use Rattle.lent.specs.Written.{Written};
 
 // A refusal with length 0, or 0 with the number of bytes written.

@@ -15,9 +15,9 @@ pub fronted-long : (xs o : List ℕ) → length xs ≤ length o → length (fron
 unfolding fronted
 fronted-long xs o h = length-append xs (drop (length xs) o) ∙ omega (arith, length-drop (length xs) o)
 
-pub prints-none : (o : List ℕ) → Prints [] o o 0
+pub prints_none : (o : List ℕ) → Prints [] o o 0
 unfolding fronted
-prints-none o = record { long = refl; is = refl }
+prints_none o = record { long = refl; is = refl }
 
 pub copied : (src dst after : List ℕ) (r : ℕ) → r ≡ length src → after ≡ take (length src) src ++ drop (length src) dst → Prints src dst after r
 unfolding fronted

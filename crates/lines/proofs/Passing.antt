@@ -6,7 +6,7 @@ use native.Mathlib.Numerals.{add-one}
 use Rattle.lists.specs.Upto.{each}
 use Rattle.lists.specs.Tests.{every}
 use Rattle.lists.proofs.Steps.{each-zero, every-next}
-use Rattle.lists.proofs.Tested.{every-true-below}
+use Rattle.lists.proofs.Tested.{every-true_below}
 
 module _ (p : ℕ → Bool) where
   pub passed_none : every (each 0 p) ≡ true
@@ -20,5 +20,5 @@ module _ (p : ℕ → Bool) where
   one-fails n i h e = go (every (each n p)) refl
     where
       go : (b : Bool) → every (each n p) ≡ b → b ≡ false
-      go true q = sym (every-true-below n p q i h) ∙ e
+      go true q = sym (every-true_below n p q i h) ∙ e
       go false q = refl

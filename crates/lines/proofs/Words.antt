@@ -6,26 +6,26 @@ use Prim.Native.Nat.{ℕ}
 use lib.Dec.{eqb}
 use borrow.Author.Tests.{eq-eqb, eqb-true}
 use Rattle.lists.proofs.Booleans.{and_both}
-use Rattle.lines.specs.Fields.{sameBytes}
+use Rattle.lines.specs.Fields.{same_bytes}
 
-same_self : (l : List ℕ) → sameBytes l l ≡ true
-unfolding sameBytes
+same_self : (l : List ℕ) → same_bytes l l ≡ true
+unfolding same_bytes
 same_self [] = refl
 same_self (x ∷ l) = rw (eq-eqb x x refl, same_self l)
 
-same-equal : (l m : List ℕ) → sameBytes l m ≡ true → l ≡ m
-unfolding sameBytes
-same-equal [] [] e = refl
-same-equal [] (y ∷ m) e = cc
-same-equal (x ∷ l) [] e = cc
-same-equal (x ∷ l) (y ∷ m) e =
-    let p = and_both (eqb x y) (sameBytes l m) e in
-    ap₂ (λ (a : ℕ) (k : List ℕ). a ∷ k) (eqb-true x y p.0) (same-equal l m p.1)
+same_equal : (l m : List ℕ) → same_bytes l m ≡ true → l ≡ m
+unfolding same_bytes
+same_equal [] [] e = refl
+same_equal [] (y ∷ m) e = cc
+same_equal (x ∷ l) [] e = cc
+same_equal (x ∷ l) (y ∷ m) e =
+    let p = and_both (eqb x y) (same_bytes l m) e in
+    ap₂ (λ (a : ℕ) (k : List ℕ). a ∷ k) (eqb-true x y p.0) (same_equal l m p.1)
 
-pub answers-same : (r : Bool) (l m : List ℕ) → (r ≡ true → l ≡ m) → (l ≡ m → r ≡ true) → r ≡ sameBytes l m
-answers-same true l m f g = sym (subst (λ (k : List ℕ). sameBytes l k ≡ true) (f refl) (same_self l))
-answers-same false l m f g = go (sameBytes l m) refl
+pub answers_same : (r : Bool) (l m : List ℕ) → (r ≡ true → l ≡ m) → (l ≡ m → r ≡ true) → r ≡ same_bytes l m
+answers_same true l m f g = sym (subst (λ (k : List ℕ). same_bytes l k ≡ true) (f refl) (same_self l))
+answers_same false l m f g = go (same_bytes l m) refl
   where
-    go : (b : Bool) → sameBytes l m ≡ b → false ≡ b
-    go true e = g (same-equal l m e)
+    go : (b : Bool) → same_bytes l m ≡ b → false ≡ b
+    go true e = g (same_equal l m e)
     go false e = refl

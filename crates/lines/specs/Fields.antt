@@ -11,10 +11,10 @@ abbrev pub rest_of : List ℕ → List ℕ
 rest_of line = drop (suc (index_of 32 line)) line
 
 -- whether two fields have the same bytes
-unfoldable pub sameBytes : List ℕ → List ℕ → Bool
-sameBytes [] [] = true
-sameBytes [] (y ∷ m) = false
-sameBytes (x ∷ l) [] = false
-sameBytes (x ∷ l) (y ∷ m) =
-    let more = sameBytes l m in
+unfoldable pub same_bytes : List ℕ → List ℕ → Bool
+same_bytes [] [] = true
+same_bytes [] (y ∷ m) = false
+same_bytes (x ∷ l) [] = false
+same_bytes (x ∷ l) (y ∷ m) =
+    let more = same_bytes l m in
     eqb x y && more

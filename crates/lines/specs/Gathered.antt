@@ -3,12 +3,12 @@ use Rattle.std.specs.Prelude.{List, ◌++◌, ◌≡◌, ℕ, ◌+◌, ◌-◌, 
 use Rattle.lines.specs.declared.input.Unread.{Unread}
 
 -- of a line of which `held` bytes are there already, so many as there is room for
-abbrev pub heldAfter : (held more room : ℕ) → ℕ
-heldAfter held more room = min (held + more) room
+abbrev pub held_after : (held more room : ℕ) → ℕ
+held_after held more room = min (held + more) room
 
 -- the piece behind the first `held` bytes, as much of it as there is room for
 pub record Appends (before : List ℕ) (held : ℕ) (piece after : List ℕ) (next : ℕ) : Type 0 where
-  pub long : next ≡ heldAfter held (length piece) (length before)
+  pub long : next ≡ held_after held (length piece) (length before)
   pub is : after ≡ take held before ++ (take (next - held) piece ++ drop next before)
 
 pub record Inside (u : Unread) (buffer : List ℕ) : Type 0 where

@@ -5,24 +5,24 @@ use Rattle.lists.specs.Tests.{every}
 use Rattle.io.specs.Digits.{hex_digit_ascii}
 
 -- the value of a digit, small or capital letters, or 16 of any other byte
-unfoldable pub hexDigitOf : ℕ → ℕ
-hexDigitOf b =
+unfoldable pub hex_digit_of : ℕ → ℕ
+hex_digit_of b =
     cond (leb 48 b && leb b 57) (b - 48) (cond (leb 97 b && leb b 102) (b - 87) (cond (leb 65 b && leb b 70) (b - 55) 16))
 
 -- hexadecimal digits alone, and a whole number of bytes
-abbrev pub isHex : List ℕ → Bool
-isHex l = eqb (length l % 2) 0 && every (each (length l) (λ i. ltb (hexDigitOf (get_or l i 0)) 16))
+abbrev pub is_hex : List ℕ → Bool
+is_hex l = eqb (length l % 2) 0 && every (each (length l) (λ i. ltb (hex_digit_of (get_or l i 0)) 16))
 
 abbrev pub byte_at : List ℕ → ℕ → ℕ
-byte_at l i = 16 * hexDigitOf (get_or l (2 * i) 0) + hexDigitOf (get_or l (2 * i + 1) 0)
+byte_at l i = 16 * hex_digit_of (get_or l (2 * i) 0) + hex_digit_of (get_or l (2 * i + 1) 0)
 
 -- the bytes that the digits stand for
 abbrev pub bytes_of : List ℕ → List ℕ
 bytes_of l = each (length l / 2) (byte_at l)
 
 -- the digit written at k: of byte k / 2 the high one, then the low one
-abbrev pub hexAt : List ℕ → ℕ → ℕ
-hexAt bytes k = hex_digit_ascii (cond (eqb (k % 2) 0) (get_or bytes (k / 2) 0 / 16) (get_or bytes (k / 2) 0 % 16))
+abbrev pub hex_at : List ℕ → ℕ → ℕ
+hex_at bytes k = hex_digit_ascii (cond (eqb (k % 2) 0) (get_or bytes (k / 2) 0 / 16) (get_or bytes (k / 2) 0 % 16))
 
-abbrev pub hexOf : List ℕ → List ℕ
-hexOf bytes = each (2 * length bytes) (hexAt bytes)
+abbrev pub hex_of : List ℕ → List ℕ
+hex_of bytes = each (2 * length bytes) (hex_at bytes)

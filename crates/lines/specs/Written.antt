@@ -1,6 +1,6 @@
 -- What a function that prints leaves in a lent buffer.
 use Rattle.std.specs.Prelude.{List, [], ◌∷◌, ◌++◌, ◌≡◌, ℕ, ◌+◌, length, take, drop}
-use Rattle.lines.specs.Numbers.{decimalOf}
+use Rattle.lines.specs.Numbers.{decimal_of}
 
 -- xs at the start, and the rest as it was
 unfoldable pub fronted : (xs buffer : List ℕ) → List ℕ
@@ -17,10 +17,10 @@ pub record Puts (xs before : List ℕ) (at : ℕ) (after : List ℕ) (next : ℕ
   pub is : after ≡ take at before ++ (xs ++ drop next before)
 
 -- - for what is empty
-abbrev pub orDash : List ℕ → List ℕ
-orDash [] = 45 ∷ []
-orDash (b ∷ l) = b ∷ l
+abbrev pub or_dash : List ℕ → List ℕ
+or_dash [] = 45 ∷ []
+or_dash (b ∷ l) = b ∷ l
 
 -- a number and a blank
 unfoldable pub numbered : ℕ → List ℕ
-numbered n = decimalOf n ++ (32 ∷ [])
+numbered n = decimal_of n ++ (32 ∷ [])

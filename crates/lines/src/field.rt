@@ -1,6 +1,6 @@
 // The fields of a line.
 ghost use Rattle.std.specs.Prelude.{◌≡◌};
-ghost use Rattle.lines.specs.Fields.{field_of, rest_of, sameBytes};
+ghost use Rattle.lines.specs.Fields.{field_of, rest_of, same_bytes};
 
 const BLANK: u8 = 32;
 
@@ -26,7 +26,7 @@ pub fn rest(line: &[u8]) -> &[u8]
 }
 
 pub fn is_word(field: &[u8], word: &[u8]) -> bool
-    ensures { result ≡ sameBytes field.now word.now }
+    ensures { result ≡ same_bytes field.now word.now }
 {
     check::same(field, word)
 }

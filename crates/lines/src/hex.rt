@@ -1,14 +1,14 @@
 // Bytes in hexadecimal.
 ghost use Rattle.std.specs.Prelude.{true, ◌≡◌, ◌*◌, ◌/◌, ◌≤◌, ◌<◌, length};
 ghost use Rattle.io.specs.Digits.{hex_digit_ascii as Digits·glyph};
-ghost use Rattle.lines.specs.Hex.{hexDigitOf, isHex, bytes_of, hexAt, hexOf};
+ghost use Rattle.lines.specs.Hex.{hex_digit_of, is_hex, bytes_of, hex_at, hex_of};
 ghost use Rattle.lines.specs.Written.{Prints};
 
 // No digit has this value.
 const NO_DIGIT: u8 = 16;
 
 fn hex_digit(b: u8) -> u8
-    ensures { result ≡ hexDigitOf b }
+    ensures { result ≡ hex_digit_of b }
 {
     match b {
         48..=57 => b - 48,
@@ -20,7 +20,7 @@ fn hex_digit(b: u8) -> u8
 
 // Whether a field is a whole number of bytes in hexadecimal.
 pub fn is_hex(field: &[u8]) -> bool
-    ensures { result ≡ isHex field.now }
+    ensures { result ≡ is_hex field.now }
 {
     let n = field.len();
     if n % 2 != 0 {
@@ -38,7 +38,7 @@ pub fn is_hex(field: &[u8]) -> bool
 
 // The bytes of a field in hexadecimal, at the start of a buffer; answers how many there are.
 pub fn read_bytes(field: &[u8], out: &mut [u8]) -> usize
-    requires { (isHex field.now ≡ true) × (length field.now / 2 ≤ length out.old) }
+    requires { (is_hex field.now ≡ true) × (length field.now / 2 ≤ length out.old) }
     ensures { Prints (bytes_of field.now) out.old out.new result }
 {
     let n = field.len() / 2;
@@ -63,7 +63,7 @@ fn glyph(d: u8) -> u8
 // The digit at k of the bytes in hexadecimal.
 fn hex_at(bytes: &[u8], k: usize) -> u8
     requires { k < 2 * length bytes.now }
-    ensures { result ≡ hexAt bytes.now k }
+    ensures { result ≡ hex_at bytes.now k }
 {
     let b = bytes[k / 2];
     if k % 2 == 0 {
@@ -75,7 +75,7 @@ fn hex_at(bytes: &[u8], k: usize) -> u8
 // Bytes in hexadecimal, small letters, at the start of a buffer; answers how many digits there are.
 pub(crate) fn put_hex(bytes: &[u8], out: &mut [u8]) -> usize
     requires { 2 * length bytes.now ≤ length out.old }
-    ensures { Prints (hexOf bytes.now) out.old out.new result }
+    ensures { Prints (hex_of bytes.now) out.old out.new result }
 {
     let n = 2 * bytes.len();
     let mut k: usize = 0;

@@ -1,4 +1,6 @@
 // Line-wise programs: lines read from a file descriptor, their fields, numbers and bytes, and the same printed into a buffer.
+#![tactic(auto)]
+
 pub mod field;
 pub mod hex;
 pub mod input;

@@ -1,6 +1,6 @@
 // Decimal numbers.
 ghost use Rattle.std.specs.Prelude.{◌≡◌, ◌≤◌, length};
-ghost use Rattle.lines.specs.Numbers.{digitOf, leadingZero, number_of, decimalOf};
+ghost use Rattle.lines.specs.Numbers.{digit_of, leading_zero, number_of, decimal_of};
 ghost use Rattle.lines.specs.Written.{Prints};
 
 #[derive(Drop)]
@@ -13,7 +13,7 @@ pub enum Number {
 const NO_DIGIT: u64 = 10;
 
 fn digit(b: u8) -> u64
-    ensures { result ≡ digitOf b }
+    ensures { result ≡ digit_of b }
 {
     if b < 48 {
         return NO_DIGIT;
@@ -26,7 +26,7 @@ fn digit(b: u8) -> u64
 
 fn leading_zero(field: &[u8]) -> bool
     requires { 1 ≤ length field.now }
-    ensures { result ≡ leadingZero field.now }
+    ensures { result ≡ leading_zero field.now }
 {
     if field[0] == 48 {
         return 1 < field.len();
@@ -70,7 +70,7 @@ pub fn number_of(field: &[u8], most: u32) -> Number
 // The digits of a number at the start of a buffer; answers how many there are.
 pub(crate) fn put_decimal(n: u64, out: &mut [u8]) -> usize
     requires { 20 ≤ length out.old }
-    ensures { Prints (decimalOf n) out.old out.new result }
+    ensures { Prints (decimal_of n) out.old out.new result }
 {
     let mut digits = [0u8; 20];
     let k = io::decimal(n, &mut digits);

@@ -1,8 +1,8 @@
 // What is printed, put piece behind piece into one buffer.
 ghost use Rattle.std.specs.Prelude.{[], ◌∷◌, ◌++◌, ◌+◌, ◌*◌, ◌≤◌, ◌<◌, length};
-ghost use Rattle.lines.specs.Hex.{hexOf};
-ghost use Rattle.lines.specs.Numbers.{decimalOf};
-ghost use Rattle.lines.specs.Written.{Puts, orDash, numbered};
+ghost use Rattle.lines.specs.Hex.{hex_of};
+ghost use Rattle.lines.specs.Numbers.{decimal_of};
+ghost use Rattle.lines.specs.Written.{Puts, or_dash, numbered};
 
 const BLANK: u8 = 32;
 
@@ -35,7 +35,7 @@ pub fn put_piece(out: &mut [u8], at: usize, piece: &[u8]) -> usize
 
 pub fn put_digits(out: &mut [u8], at: usize, n: u64) -> usize
     requires { at + 20 ≤ length out.old }
-    ensures { Puts (decimalOf n) out.old at out.new result }
+    ensures { Puts (decimal_of n) out.old at out.new result }
 {
     at + crate::number::put_decimal(n, &mut out[at..])
 }
@@ -62,7 +62,7 @@ pub fn put_three(out: &mut [u8], a: u64, b: u64, c: u64) -> usize
 // A text, or - where it is empty.
 pub fn put_text(out: &mut [u8], at: usize, text: &[u8]) -> usize
     requires { at + (length text.now + 1) ≤ length out.old }
-    ensures { Puts (orDash text.now) out.old at out.new result }
+    ensures { Puts (or_dash text.now) out.old at out.new result }
 {
     if text.len() == 0 {
         return put_byte(out, at, DASH);
@@ -73,7 +73,7 @@ pub fn put_text(out: &mut [u8], at: usize, text: &[u8]) -> usize
 // Bytes in hexadecimal, or - where there are none.
 pub fn put_bytes(out: &mut [u8], at: usize, bytes: &[u8]) -> usize
     requires { at + (2 * length bytes.now + 1) ≤ length out.old }
-    ensures { Puts (orDash (hexOf bytes.now)) out.old at out.new result }
+    ensures { Puts (or_dash (hex_of bytes.now)) out.old at out.new result }
 {
     if bytes.len() == 0 {
         return put_byte(out, at, DASH);

@@ -12,13 +12,13 @@ pub and_both : (s t : Bool) → (s && t) ≡ true → (s ≡ true) × (t ≡ tru
 and_both true t e = (refl, e)
 and_both false t e = absurd (true≢false (sym e))
 
-pub or-either : (s t : Bool) → (s || t) ≡ true → (s ≡ true) ⊎ (t ≡ true)
-or-either true t e = inl refl
-or-either false t e = inr e
+pub or_either : (s t : Bool) → (s || t) ≡ true → (s ≡ true) ⊎ (t ≡ true)
+or_either true t e = inl refl
+or_either false t e = inr e
 
-pub or-neither : (s t : Bool) → (s || t) ≡ false → (s ≡ false) × (t ≡ false)
-or-neither true t e = absurd (true≢false e)
-or-neither false t e = (refl, e)
+pub or_neither : (s t : Bool) → (s || t) ≡ false → (s ≡ false) × (t ≡ false)
+or_neither true t e = absurd (true≢false e)
+or_neither false t e = (refl, e)
 
 -- a choice that gives 0 did not take the branch that is over 0
 pub unless : (s : Bool) (m n : ℕ) → cond s (suc m) n ≡ 0 → (s ≡ false) × (n ≡ 0)

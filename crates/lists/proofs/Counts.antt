@@ -10,8 +10,8 @@ use lib.Dec.{eqb}
 use Rattle.lists.specs.Upto.{upto, each, sum}
 use Rattle.lists.specs.Tests.{count}
 use Rattle.lists.proofs.Booleans.{cond-le, eqb_swap}
-use Rattle.lists.proofs.Upto.{each-eq, of-upto}
-use Rattle.lists.proofs.Passed.{count-map-none, count-map-le, count-map-apart}
+use Rattle.lists.proofs.Upto.{each-eq, of_upto}
+use Rattle.lists.proofs.Passed.{count-map_none, count-map_le, count-map_apart}
 use Rattle.lists.proofs.Sums.{sum-add, sum-le, sum_lt, sum-const, sum-pick, count-sum}
 
 abbrev bit : Bool → ℕ
@@ -26,12 +26,12 @@ count-eq n p q h = ap count (each-eq n p q h)
 
 pub count_none : (n : ℕ) (p : ℕ → Bool) → ((a : ℕ) → a < n → p a ≡ false) → count (each n p) ≡ 0
 unfolding each
-count_none n p h = count-map-none (upto n) p (λ a m. h a (of-upto n a m))
+count_none n p h = count-map_none (upto n) p (λ a m. h a (of_upto n a m))
 
 -- what passes p passes q
 pub count-le : (n : ℕ) (p q : ℕ → Bool) → ((a : ℕ) → a < n → p a ≡ true → q a ≡ true) → count (each n p) ≤ count (each n q)
 unfolding each
-count-le n p q h = count-map-le (upto n) p q (λ a m. h a (of-upto n a m))
+count-le n p q h = count-map_le (upto n) p q (λ a m. h a (of_upto n a m))
 
 -- what passes p passes q, and x passes only q
 pub count-lt : (n : ℕ) (p q : ℕ → Bool) → ((a : ℕ) → a < n → p a ≡ true → q a ≡ true) → (x : ℕ) → x < n → p x ≡ false → q x ≡ true
@@ -58,7 +58,7 @@ count-cover n p q r h =
 pub count-apart : (n : ℕ) (p q r : ℕ → Bool) → ((a : ℕ) → a < n → p a ≡ true → (r a ≡ true) × (q a ≡ false)) → ((a : ℕ) → a < n → q a ≡ true → r a ≡ true)
     → count (each n p) + count (each n q) ≤ count (each n r)
 unfolding each
-count-apart n p q r h k = count-map-apart (upto n) p q r (λ a m. h a (of-upto n a m)) (λ a m. k a (of-upto n a m))
+count-apart n p q r h k = count-map_apart (upto n) p q r (λ a m. h a (of_upto n a m)) (λ a m. k a (of_upto n a m))
 
 pub count-below : (n : ℕ) (p : ℕ → Bool) → count (each n p) ≤ n
 count-below n p =

@@ -12,23 +12,23 @@ use lib.ListN.{length, get_or, length-append, get_or-append}
 use lib.Seq.{get_or-append-add}
 use Rattle.lists.specs.Upto.{sum}
 use Rattle.lists.specs.Tests.{count}
-use Rattle.lists.proofs.Steps.{count-append, flatten-append}
+use Rattle.lists.proofs.Steps.{count-append, flatten_append}
 
 module _ {A B : Type 0} (f : A → List B) where
-  pub of-flatten-map : (l : List A) (x : B) → Memᴰ x (flatten (map f l)) → (a : A) × Memᴰ a l × Memᴰ x (f a)
+  pub of_flatten_map : (l : List A) (x : B) → Memᴰ x (flatten (map f l)) → (a : A) × Memᴰ a l × Memᴰ x (f a)
   unfolding flatten
-  of-flatten-map [] x d = absurd (Memᴰ.not-nil d)
-  of-flatten-map (a ∷ l) x d = go (Memᴰ.append_cases (f a) d) (of-flatten-map l x)
+  of_flatten_map [] x d = absurd (Memᴰ.not-nil d)
+  of_flatten_map (a ∷ l) x d = go (Memᴰ.append_cases (f a) d) (of_flatten_map l x)
     where
       go : Memᴰ x (f a) ⊎ Memᴰ x (flatten (map f l)) → (Memᴰ x (flatten (map f l)) → (b : A) × Memᴰ b l × Memᴰ x (f b))
           → (b : A) × Memᴰ b (a ∷ l) × Memᴰ x (f b)
       go (inl d) ih = (a, Memᴰ.head refl, d)
       go (inr d) ih = let w = ih d in (w.0, Memᴰ.tail w.1, w.2)
 
-  pub mem-flatten-map : (l : List A) (x : B) (a : A) → Memᴰ a l → Memᴰ x (f a) → Memᴰ x (flatten (map f l))
+  pub mem_flatten_map : (l : List A) (x : B) (a : A) → Memᴰ a l → Memᴰ x (f a) → Memᴰ x (flatten (map f l))
   unfolding flatten
-  mem-flatten-map [] x a d e = absurd (Memᴰ.not-nil d)
-  mem-flatten-map (b ∷ l) x a d e = go (Memᴰ.cases_cons d) (mem-flatten-map l x a)
+  mem_flatten_map [] x a d e = absurd (Memᴰ.not-nil d)
+  mem_flatten_map (b ∷ l) x a d e = go (Memᴰ.cases_cons d) (mem_flatten_map l x a)
     where
       go : (a ≡ b) ⊎ Memᴰ a l → (Memᴰ a l → Memᴰ x (f a) → Memᴰ x (flatten (map f l))) → Memᴰ x (f b ++ flatten (map f l))
       go (inl q) ih = Memᴰ.append_left (flatten (map f l)) (subst (λ (c : A). Memᴰ x (f c)) q e)
@@ -44,16 +44,16 @@ unfolding flatten sum
 count-flatten p [] = refl
 count-flatten p (l ∷ ls) = ap count (map-append p l (flatten ls)) ∙ count-append (map p l) (map p (flatten ls)) ∙ ap (λ k. count (map p l) + k) (count-flatten p ls)
 
-pub map-flatten-map : {A B C : Type 0} (g : B → C) (f : A → List B) (l : List A) → map g (flatten (map f l)) ≡ flatten (map (λ a. map g (f a)) l)
+pub map-flatten_map : {A B C : Type 0} (g : B → C) (f : A → List B) (l : List A) → map g (flatten (map f l)) ≡ flatten (map (λ a. map g (f a)) l)
 unfolding flatten
-map-flatten-map g f [] = refl
-map-flatten-map g f (a ∷ l) = map-append g (f a) (flatten (map f l)) ∙ ap (λ r. map g (f a) ++ r) (map-flatten-map g f l)
+map-flatten_map g f [] = refl
+map-flatten_map g f (a ∷ l) = map-append g (f a) (flatten (map f l)) ∙ ap (λ r. map g (f a) ++ r) (map-flatten_map g f l)
 
-pub flatten-map-flatten : {A B : Type 0} (f : A → List B) (ls : List (List A)) → flatten (map f (flatten ls)) ≡ flatten (map (λ l. flatten (map f l)) ls)
+pub flatten_map_flatten : {A B : Type 0} (f : A → List B) (ls : List (List A)) → flatten (map f (flatten ls)) ≡ flatten (map (λ l. flatten (map f l)) ls)
 unfolding flatten
-flatten-map-flatten f [] = refl
-flatten-map-flatten f (l ∷ ls) =
-    ap flatten (map-append f l (flatten ls)) ∙ flatten-append (map f l) (map f (flatten ls)) ∙ ap (λ r. flatten (map f l) ++ r) (flatten-map-flatten f ls)
+flatten_map_flatten f [] = refl
+flatten_map_flatten f (l ∷ ls) =
+    ap flatten (map-append f l (flatten ls)) ∙ flatten_append (map f l) (map f (flatten ls)) ∙ ap (λ r. flatten (map f l) ++ r) (flatten_map_flatten f ls)
 
 -- pieces of one length w, one after the other
 module _ {A B : Type 0} (f : A → List B) (w : ℕ) (wide : (a : A) → length (f a) ≡ w) where
@@ -62,12 +62,12 @@ module _ {A B : Type 0} (f : A → List B) (w : ℕ) (wide : (a : A) → length 
   length-pieces [] = omega arith
   length-pieces (a ∷ l) = omega (arith, length-append (f a) (flatten (map f l)), wide a, length-pieces l)
 
-  pub getD-pieces : (l : List A) (k i : ℕ) (z : A) (d : B) → k < length l → i < w → get_or (flatten (map f l)) (w * k + i) d ≡ get_or (f (get_or l k z)) i d
+  pub get_or-pieces : (l : List A) (k i : ℕ) (z : A) (d : B) → k < length l → i < w → get_or (flatten (map f l)) (w * k + i) d ≡ get_or (f (get_or l k z)) i d
   unfolding flatten
-  getD-pieces [] k i z d h m = absurd (not-suc-le-zero h)
-  getD-pieces (a ∷ l) zero i z d h m =
+  get_or-pieces [] k i z d h m = absurd (not-suc-le-zero h)
+  get_or-pieces (a ∷ l) zero i z d h m =
       let e : w * 0 + i ≡ i = omega arith in
       ap (λ j. get_or (f a ++ flatten (map f l)) j d) e ∙ get_or-append (f a) (flatten (map f l)) d i (omega (arith, wide a))
-  getD-pieces (a ∷ l) (suc k) i z d h m =
+  get_or-pieces (a ∷ l) (suc k) i z d h m =
       let e : w * suc k + i ≡ length (f a) + (w * k + i) = omega (arith, wide a) in
-      ap (λ j. get_or (f a ++ flatten (map f l)) j d) e ∙ get_or-append-add (f a) (flatten (map f l)) (w * k + i) d ∙ getD-pieces l k i z d (omega arith) m
+      ap (λ j. get_or (f a ++ flatten (map f l)) j d) e ∙ get_or-append-add (f a) (flatten (map f l)) (w * k + i) d ∙ get_or-pieces l k i z d (omega arith) m

@@ -7,7 +7,7 @@ use mathlib.Core.List.{List, [], ◌∷◌, map, map-map, head_d, Permᴰ, Mem�
 use mathlib.Core.Logic.{◌⊎◌, inl, inr}
 use Rattle.lists.specs.Tests.{keep}
 use Rattle.lists.proofs.Permutation.{keep-perm}
-use Rattle.lists.proofs.Members.{headD-mem}
+use Rattle.lists.proofs.Members.{head_d-mem}
 
 pub keep-map : {A B : Type 0} (p : B → Bool) (f : A → B) (l : List A) → keep p (map f l) ≡ map f (keep (λ a. p (f a)) l)
 unfolding keep
@@ -27,10 +27,10 @@ keep-eq (x ∷ l) p q h =
     let e = keep-eq l p q (λ a m. h a (Memᴰ.tail m)) in
     λ i. cond (h x (Memᴰ.head refl) i) (x ∷ e i) (e i)
 
-pub mem-keep : {A : Type 0} (p : A → Bool) (l : List A) (x : A) → Memᴰ x l → p x ≡ true → Memᴰ x (keep p l)
+pub mem_keep : {A : Type 0} (p : A → Bool) (l : List A) (x : A) → Memᴰ x l → p x ≡ true → Memᴰ x (keep p l)
 unfolding keep
-mem-keep p [] x m e = m
-mem-keep p (y ∷ l) x m e = go (p y) refl (mem-keep p l x) (Memᴰ.cases_cons m)
+mem_keep p [] x m e = m
+mem_keep p (y ∷ l) x m e = go (p y) refl (mem_keep p l x) (Memᴰ.cases_cons m)
   where
     go : (s : Bool) → p y ≡ s → (Memᴰ x l → p x ≡ true → Memᴰ x (keep p l)) → (x ≡ y) ⊎ Memᴰ x l → Memᴰ x (cond s (y ∷ keep p l) (keep p l))
     go true f ih (inl q) = Memᴰ.head q
@@ -38,10 +38,10 @@ mem-keep p (y ∷ l) x m e = go (p y) refl (mem-keep p l x) (Memᴰ.cases_cons m
     go false f ih (inl q) = absurd (true≢false (sym e ∙ ap p q ∙ f))
     go false f ih (inr k) = ih k e
 
-pub of-keep : {A : Type 0} (p : A → Bool) (l : List A) (x : A) → Memᴰ x (keep p l) → Memᴰ x l × (p x ≡ true)
+pub of_keep : {A : Type 0} (p : A → Bool) (l : List A) (x : A) → Memᴰ x (keep p l) → Memᴰ x l × (p x ≡ true)
 unfolding keep
-of-keep p [] x m = absurd (Memᴰ.not-nil m)
-of-keep p (y ∷ l) x m = go (p y) refl (of-keep p l x) m
+of_keep p [] x m = absurd (Memᴰ.not-nil m)
+of_keep p (y ∷ l) x m = go (p y) refl (of_keep p l x) m
   where
     go : (s : Bool) → p y ≡ s → (Memᴰ x (keep p l) → Memᴰ x l × (p x ≡ true)) → Memᴰ x (cond s (y ∷ keep p l) (keep p l)) → Memᴰ x (y ∷ l) × (p x ≡ true)
     go false f ih m = let h = ih m in (Memᴰ.tail h.0, h.1)
@@ -54,12 +54,12 @@ of-keep p (y ∷ l) x m = go (p y) refl (of-keep p l x) m
 -- the first of those kept, where one is
 pub first-kept : {A : Type 0} (p : A → Bool) (l : List A) (d x : A) → Memᴰ x l → p x ≡ true
     → Memᴰ (head_d (keep p l) d) l × (p (head_d (keep p l) d) ≡ true)
-first-kept p l d x m e = of-keep p l (head_d (keep p l) d) (headD-mem (keep p l) d x (mem-keep p l x m e))
+first-kept p l d x m e = of_keep p l (head_d (keep p l) d) (head_d-mem (keep p l) d x (mem_keep p l x m e))
 
 -- two lists of which the outcomes of a test, each with something else, are the same in another order: so is the something of what passes
-pub keep-map-perm : {A B : Type 0} (p p' : A → Bool) (t t' : A → B) (l l' : List A) → Permᴰ {A = Bool × B} (map (λ x. (p' x, t' x)) l') (map (λ x. (p x, t x)) l)
+pub keep-map_perm : {A B : Type 0} (p p' : A → Bool) (t t' : A → B) (l l' : List A) → Permᴰ {A = Bool × B} (map (λ x. (p' x, t' x)) l') (map (λ x. (p x, t x)) l)
     → Permᴰ (map t' (keep p' l')) (map t (keep p l))
-keep-map-perm {A} {B} p p' t t' l l' π = rw (← kept p t l, ← kept p' t' l') (Permᴰ.map second (keep-perm first π))
+keep-map_perm {A} {B} p p' t t' l l' π = rw (← kept p t l, ← kept p' t' l') (Permᴰ.map second (keep-perm first π))
   where
     first : Bool × B → Bool
     first q = q.0

@@ -11,24 +11,24 @@ use Rattle.lists.specs.Tests.{keep, count}
 use Rattle.lists.proofs.Booleans.{cond-le}
 use Rattle.lists.proofs.Steps.{count-append}
 
-pub count-map-none : {A : Type 0} (l : List A) (p : A → Bool) → ((x : A) → Memᴰ x l → p x ≡ false) → count (map p l) ≡ 0
-count-map-none [] p h = refl
-count-map-none (x ∷ l) p h = rw (h x (Memᴰ.head refl)) (zero-add _ ∙ count-map-none l p (λ y m. h y (Memᴰ.tail m)))
+pub count-map_none : {A : Type 0} (l : List A) (p : A → Bool) → ((x : A) → Memᴰ x l → p x ≡ false) → count (map p l) ≡ 0
+count-map_none [] p h = refl
+count-map_none (x ∷ l) p h = rw (h x (Memᴰ.head refl)) (zero-add _ ∙ count-map_none l p (λ y m. h y (Memᴰ.tail m)))
 
 -- what passes p passes q
-pub count-map-le : {A : Type 0} (l : List A) (p q : A → Bool) → ((x : A) → Memᴰ x l → p x ≡ true → q x ≡ true) → count (map p l) ≤ count (map q l)
-count-map-le [] p q h = omega arith
-count-map-le (x ∷ l) p q h = omega (arith, cond-le (p x) (q x) (h x (Memᴰ.head refl)), count-map-le l p q (λ y m. h y (Memᴰ.tail m)))
+pub count-map_le : {A : Type 0} (l : List A) (p q : A → Bool) → ((x : A) → Memᴰ x l → p x ≡ true → q x ≡ true) → count (map p l) ≤ count (map q l)
+count-map_le [] p q h = omega arith
+count-map_le (x ∷ l) p q h = omega (arith, cond-le (p x) (q x) (h x (Memᴰ.head refl)), count-map_le l p q (λ y m. h y (Memᴰ.tail m)))
 
 -- what passes p or q passes r, and nothing passes both
-pub count-map-apart : {A : Type 0} (l : List A) (p q r : A → Bool) → ((x : A) → Memᴰ x l → p x ≡ true → (r x ≡ true) × (q x ≡ false))
+pub count-map_apart : {A : Type 0} (l : List A) (p q r : A → Bool) → ((x : A) → Memᴰ x l → p x ≡ true → (r x ≡ true) × (q x ≡ false))
     → ((x : A) → Memᴰ x l → q x ≡ true → r x ≡ true) → count (map p l) + count (map q l) ≤ count (map r l)
-count-map-apart [] p q r h k = omega arith
-count-map-apart (x ∷ l) p q r h k =
+count-map_apart [] p q r h k = omega arith
+count-map_apart (x ∷ l) p q r h k =
     omega (
       arith,
       go (p x) (q x) (r x) (h x (Memᴰ.head refl)) (k x (Memᴰ.head refl)),
-      count-map-apart l p q r (λ y m. h y (Memᴰ.tail m)) (λ y m. k y (Memᴰ.tail m)),
+      count-map_apart l p q r (λ y m. h y (Memᴰ.tail m)) (λ y m. k y (Memᴰ.tail m)),
     )
   where
     go : (s t u : Bool) → (s ≡ true → (u ≡ true) × (t ≡ false)) → (t ≡ true → u ≡ true) → cond {A = ℕ} s 1 0 + cond t 1 0 ≤ cond u 1 0

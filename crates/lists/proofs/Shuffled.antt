@@ -14,10 +14,10 @@ use borrow.Author.Tests.{eq-eqb, eqb-true}
 use Rattle.lists.specs.Upto.{from, upto, each}
 use Rattle.lists.specs.Tests.{keep}
 use Rattle.lists.specs.Shuffle.{Shuffle}
-use Rattle.lists.proofs.Permutation.{perm-of-eq, length-perm, keep-perm, mem-perm}
-use Rattle.lists.proofs.Upto.{each-eq, mem-upto, of-upto, of-from}
+use Rattle.lists.proofs.Permutation.{perm_of_eq, length-perm, keep-perm, mem_perm}
+use Rattle.lists.proofs.Upto.{each-eq, mem_upto, of_upto, of_from}
 use Rattle.lists.proofs.Members.{map-eq}
-use Rattle.lists.proofs.Kept.{keep-map, keep-eq, of-keep, first-kept}
+use Rattle.lists.proofs.Kept.{keep-map, keep-eq, of_keep, first-kept}
 
 abbrev pub Distinct : List ℕ → Type 0
 Distinct [] = Unit
@@ -56,7 +56,7 @@ from-distinct σ k (suc n) h = (λ y m e. clash y e (Memᴰ.of_map σ (from (suc
   where
     clash : (y : ℕ) → y ≡ σ k → (a : ℕ) × Memᴰ a (from (suc k) n) × (σ a ≡ y) → ⊥
     clash y e w =
-        let l = of-from (suc k) n w.0 w.1 in
+        let l = of_from (suc k) n w.0 w.1 in
         let s : w.0 ≡ k = h w.0 k (omega arith) (omega arith) (w.2 ∙ e) in
         omega arith
 
@@ -64,11 +64,11 @@ from-distinct σ k (suc n) h = (λ y m e. clash y e (Memᴰ.of_map σ (from (suc
 unfoldable pub undo : (ℕ → ℕ) → ℕ → ℕ → ℕ
 undo f n b = head_d (keep (λ a. eqb (f a) b) (upto n)) 0
 
-pub undo-at : (f : ℕ → ℕ) (n : ℕ) → ((a b : ℕ) → a < n → b < n → f a ≡ f b → a ≡ b) → (a : ℕ) → a < n → undo f n (f a) ≡ a
+pub undo_at : (f : ℕ → ℕ) (n : ℕ) → ((a b : ℕ) → a < n → b < n → f a ≡ f b → a ≡ b) → (a : ℕ) → a < n → undo f n (f a) ≡ a
 unfolding undo
-undo-at f n apart a h =
-    let w = first-kept (λ b. eqb (f b) (f a)) (upto n) 0 a (mem-upto n a h) (eq-eqb (f a) (f a) refl) in
-    apart _ a (of-upto n _ w.0) h (eqb-true _ (f a) w.1)
+undo_at f n apart a h =
+    let w = first-kept (λ b. eqb (f b) (f a)) (upto n) 0 a (mem_upto n a h) (eq-eqb (f a) (f a) refl) in
+    apart _ a (of_upto n _ w.0) h (eqb-true _ (f a) w.1)
 
 module _ {σ : ℕ → ℕ} {n : ℕ} (S : Shuffle σ n) where
   pub shuffle-perm : Permᴰ (upto n) (map σ (upto n))
@@ -81,26 +81,26 @@ module _ {σ : ℕ → ℕ} {n : ℕ} (S : Shuffle σ n) where
       inside : (x : ℕ) → Memᴰ x (map σ (upto n)) → Memᴰ x (upto n)
       inside x m =
           let w = Memᴰ.of_map σ (upto n) m in
-          let s = S.within w.0 (of-upto n w.0 w.1) in
-          mem-upto n x (omega (arith, w.2))
+          let s = S.within w.0 (of_upto n w.0 w.1) in
+          mem_upto n x (omega (arith, w.2))
 
   -- every number below n is taken
   pub shuffle-onto : (b : ℕ) → b < n → (a : ℕ) × (a < n) × (σ a ≡ b)
   shuffle-onto b h =
-      let w = Memᴰ.of_map σ (upto n) (mem-perm shuffle-perm (mem-upto n b h)) in
-      (w.0, of-upto n w.0 w.1, w.2)
+      let w = Memᴰ.of_map σ (upto n) (mem_perm shuffle-perm (mem_upto n b h)) in
+      (w.0, of_upto n w.0 w.1, w.2)
 
-  pub undo-shuffle : (a : ℕ) → a < n → undo σ n (σ a) ≡ a
-  undo-shuffle = undo-at σ n S.apart
+  pub undo_shuffle : (a : ℕ) → a < n → undo σ n (σ a) ≡ a
+  undo_shuffle = undo_at σ n S.apart
 
   pub shuffle-undo : (b : ℕ) → b < n → σ (undo σ n b) ≡ b
   shuffle-undo b h =
       let w = shuffle-onto b h in
-      ap (λ c. σ (undo σ n c)) (sym w.2) ∙ ap σ (undo-shuffle w.0 w.1) ∙ w.2
+      ap (λ c. σ (undo σ n c)) (sym w.2) ∙ ap σ (undo_shuffle w.0 w.1) ∙ w.2
 
   pub undone : Shuffle (undo σ n) n
   undone = record {
-    within = λ b h. let w = shuffle-onto b h in omega (arith, w.1, ap (undo σ n) w.2, undo-shuffle w.0 w.1);
+    within = λ b h. let w = shuffle-onto b h in omega (arith, w.1, ap (undo σ n) w.2, undo_shuffle w.0 w.1);
     apart = λ a b h k e. sym (shuffle-undo a h) ∙ ap σ e ∙ shuffle-undo b k;
   }
 
@@ -109,17 +109,17 @@ module _ {σ : ℕ → ℕ} {n : ℕ} (S : Shuffle σ n) where
   unfolding each
   each-perm f f' h =
       Permᴰ.trans (Permᴰ.map f' shuffle-perm)
-      (perm-of-eq (map-map f' σ (upto n) ∙ each-eq n (λ a. f' (σ a)) f h))
+      (perm_of_eq (map-map f' σ (upto n) ∙ each-eq n (λ a. f' (σ a)) f h))
 
   -- the numbers that pass a test, if the test is carried along
   pub keep-shuffle : (p p' : ℕ → Bool) → ((a : ℕ) → a < n → p' (σ a) ≡ p a) → Permᴰ (keep p' (upto n)) (map σ (keep p (upto n)))
   keep-shuffle p p' h =
       Permᴰ.trans (keep-perm p' shuffle-perm)
-      (perm-of-eq (keep-map p' σ (upto n) ∙ ap (map σ) (keep-eq (upto n) (λ a. p' (σ a)) p (λ a m. h a (of-upto n a m)))))
+      (perm_of_eq (keep-map p' σ (upto n) ∙ ap (map σ) (keep-eq (upto n) (λ a. p' (σ a)) p (λ a m. h a (of_upto n a m)))))
 
   -- and something of each, if it is carried along as well
-  pub keep-each-perm : {A : Type 0} (f f' : ℕ → A) (p p' : ℕ → Bool) → ((a : ℕ) → a < n → p' (σ a) ≡ p a) → ((a : ℕ) → a < n → f' (σ a) ≡ f a)
+  pub keep-each_perm : {A : Type 0} (f f' : ℕ → A) (p p' : ℕ → Bool) → ((a : ℕ) → a < n → p' (σ a) ≡ p a) → ((a : ℕ) → a < n → f' (σ a) ≡ f a)
       → Permᴰ (map f' (keep p' (upto n))) (map f (keep p (upto n)))
-  keep-each-perm f f' p p' h g =
+  keep-each_perm f f' p p' h g =
       Permᴰ.trans (Permᴰ.map f' (keep-shuffle p p' h))
-      (perm-of-eq (map-map f' σ (keep p (upto n)) ∙ map-eq (keep p (upto n)) (λ a. f' (σ a)) f (λ a m. g a (of-upto n a (of-keep p (upto n) a m).0))))
+      (perm_of_eq (map-map f' σ (keep p (upto n)) ∙ map-eq (keep p (upto n)) (λ a. f' (σ a)) f (λ a m. g a (of_upto n a (of_keep p (upto n) a m).0))))

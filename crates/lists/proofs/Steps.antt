@@ -63,14 +63,14 @@ pub sum-next : (n : ℕ) (f : ℕ → ℕ) → sum (each (suc n) f) ≡ sum (eac
 unfolding sum
 sum-next n f = ap sum (each_next n f) ∙ sum-append (each n f) (f n ∷ []) ∙ omega arith
 
-pub flatten-append : {A : Type 0} (ls ls' : List (List A)) → flatten (ls ++ ls') ≡ flatten ls ++ flatten ls'
+pub flatten_append : {A : Type 0} (ls ls' : List (List A)) → flatten (ls ++ ls') ≡ flatten ls ++ flatten ls'
 unfolding flatten
-flatten-append [] ls' = refl
-flatten-append (l ∷ ls) ls' = ap (λ x. l ++ x) (flatten-append ls ls') ∙ sym (append_assoc l (flatten ls) (flatten ls'))
+flatten_append [] ls' = refl
+flatten_append (l ∷ ls) ls' = ap (λ x. l ++ x) (flatten_append ls ls') ∙ sym (append_assoc l (flatten ls) (flatten ls'))
 
-pub flatten-next : {A : Type 0} (n : ℕ) (f : ℕ → List A) → flatten (each (suc n) f) ≡ flatten (each n f) ++ f n
+pub flatten_next : {A : Type 0} (n : ℕ) (f : ℕ → List A) → flatten (each (suc n) f) ≡ flatten (each n f) ++ f n
 unfolding flatten
-flatten-next n f = ap flatten (each_next n f) ∙ flatten-append (each n f) (f n ∷ []) ∙ ap (λ x. flatten (each n f) ++ x) (append-nil (f n))
+flatten_next n f = ap flatten (each_next n f) ∙ flatten_append (each n f) (f n ∷ []) ∙ ap (λ x. flatten (each n f) ++ x) (append-nil (f n))
 
 pub keep_append : {A : Type 0} (p : A → Bool) (l l' : List A) → keep p (l ++ l') ≡ keep p l ++ keep p l'
 unfolding keep
@@ -86,24 +86,24 @@ unfolding keep
 keep-next n p = ap (keep p) (upto_next n) ∙ keep_append p (upto n) (n ∷ [])
 
 -- something of each number that passes
-map-keep-next : {A : Type 0} (n : ℕ) (p : ℕ → Bool) (f : ℕ → A) → map f (keep p (upto (suc n))) ≡ map f (keep p (upto n)) ++ map f (cond (p n) (n ∷ []) [])
-map-keep-next n p f = ap (map f) (keep-next n p) ∙ map-append f (keep p (upto n)) (cond (p n) (n ∷ []) [])
+map-keep_next : {A : Type 0} (n : ℕ) (p : ℕ → Bool) (f : ℕ → A) → map f (keep p (upto (suc n))) ≡ map f (keep p (upto n)) ++ map f (cond (p n) (n ∷ []) [])
+map-keep_next n p f = ap (map f) (keep-next n p) ∙ map-append f (keep p (upto n)) (cond (p n) (n ∷ []) [])
 
-pub flatten-keep-next : {A : Type 0} (n : ℕ) (p : ℕ → Bool) (f : ℕ → List A)
+pub flatten_keep_next : {A : Type 0} (n : ℕ) (p : ℕ → Bool) (f : ℕ → List A)
     → flatten (map f (keep p (upto (suc n)))) ≡ flatten (map f (keep p (upto n))) ++ cond (p n) (f n) []
 unfolding flatten
-flatten-keep-next n p f =
-    ap flatten (map-keep-next n p f) ∙ flatten-append (map f (keep p (upto n))) (map f (cond (p n) (n ∷ []) []))
+flatten_keep_next n p f =
+    ap flatten (map-keep_next n p f) ∙ flatten_append (map f (keep p (upto n))) (map f (cond (p n) (n ∷ []) []))
     ∙ ap (λ x. flatten (map f (keep p (upto n))) ++ x) (go (p n))
   where
     go : (b : Bool) → flatten (map f (cond b (n ∷ []) [])) ≡ cond b (f n) []
     go true = append-nil (f n)
     go false = refl
 
-pub sum-keep-next : (n : ℕ) (p : ℕ → Bool) (f : ℕ → ℕ) → sum (map f (keep p (upto (suc n)))) ≡ sum (map f (keep p (upto n))) + cond (p n) (f n) 0
+pub sum-keep_next : (n : ℕ) (p : ℕ → Bool) (f : ℕ → ℕ) → sum (map f (keep p (upto (suc n)))) ≡ sum (map f (keep p (upto n))) + cond (p n) (f n) 0
 unfolding sum
-sum-keep-next n p f =
-    ap sum (map-keep-next n p f) ∙ sum-append (map f (keep p (upto n))) (map f (cond (p n) (n ∷ []) []))
+sum-keep_next n p f =
+    ap sum (map-keep_next n p f) ∙ sum-append (map f (keep p (upto n))) (map f (cond (p n) (n ∷ []) []))
     ∙ ap (λ x. sum (map f (keep p (upto n))) + x) (go (p n))
   where
     go : (b : Bool) → sum (map f (cond b (n ∷ []) [])) ≡ cond b (f n) 0

@@ -11,29 +11,29 @@ use lib.Dec.{eqb}
 use lib.ListN.{length}
 use Rattle.lists.specs.Upto.{upto, each, sum}
 use Rattle.lists.specs.Tests.{keep, count}
-use Rattle.lists.proofs.Upto.{each-eq, length-upto, of-upto}
+use Rattle.lists.proofs.Upto.{each-eq, length-upto, of_upto}
 use Rattle.lists.proofs.Steps.{sum-next}
 
-pub sum-map-add : {A : Type 0} (l : List A) (f g h : A → ℕ) → ((x : A) → Memᴰ x l → h x ≡ f x + g x) → sum (map h l) ≡ sum (map f l) + sum (map g l)
+pub sum-map_add : {A : Type 0} (l : List A) (f g h : A → ℕ) → ((x : A) → Memᴰ x l → h x ≡ f x + g x) → sum (map h l) ≡ sum (map f l) + sum (map g l)
 unfolding sum
-sum-map-add [] f g h e = refl
-sum-map-add (x ∷ l) f g h e = omega (arith, e x (Memᴰ.head refl), sum-map-add l f g h (λ y m. e y (Memᴰ.tail m)))
+sum-map_add [] f g h e = refl
+sum-map_add (x ∷ l) f g h e = omega (arith, e x (Memᴰ.head refl), sum-map_add l f g h (λ y m. e y (Memᴰ.tail m)))
 
-sum-map-le : {A : Type 0} (l : List A) (f g : A → ℕ) → ((x : A) → Memᴰ x l → f x ≤ g x) → sum (map f l) ≤ sum (map g l)
+sum-map_le : {A : Type 0} (l : List A) (f g : A → ℕ) → ((x : A) → Memᴰ x l → f x ≤ g x) → sum (map f l) ≤ sum (map g l)
 unfolding sum
-sum-map-le [] f g h = omega arith
-sum-map-le (x ∷ l) f g h = omega (arith, h x (Memᴰ.head refl), sum-map-le l f g (λ y m. h y (Memᴰ.tail m)))
+sum-map_le [] f g h = omega arith
+sum-map_le (x ∷ l) f g h = omega (arith, h x (Memᴰ.head refl), sum-map_le l f g (λ y m. h y (Memᴰ.tail m)))
 
-pub sum-map-const : {A : Type 0} (l : List A) (c : ℕ) → sum (map (λ x. c) l) ≡ length l * c
+pub sum-map_const : {A : Type 0} (l : List A) (c : ℕ) → sum (map (λ x. c) l) ≡ length l * c
 unfolding sum
-sum-map-const [] c = omega arith
-sum-map-const (x ∷ l) c = omega (arith, sum-map-const l c)
+sum-map_const [] c = omega arith
+sum-map_const (x ∷ l) c = omega (arith, sum-map_const l c)
 
 -- those of a list that pass come to no more than the whole list
-pub sum-keep-le : {A : Type 0} (f : A → ℕ) (p : A → Bool) (l : List A) → sum (map f (keep p l)) ≤ sum (map f l)
+pub sum-keep_le : {A : Type 0} (f : A → ℕ) (p : A → Bool) (l : List A) → sum (map f (keep p l)) ≤ sum (map f l)
 unfolding keep sum
-sum-keep-le f p [] = omega arith
-sum-keep-le f p (x ∷ l) = go (p x) (sum-keep-le f p l)
+sum-keep_le f p [] = omega arith
+sum-keep_le f p (x ∷ l) = go (p x) (sum-keep_le f p l)
   where
     go : (b : Bool) → sum (map f (keep p l)) ≤ sum (map f l) → sum (map f (cond b (x ∷ keep p l) (keep p l))) ≤ f x + sum (map f l)
     go true ih = omega arith
@@ -44,15 +44,15 @@ sum-eq n f g h = ap sum (each-eq n f g h)
 
 pub sum-add : (n : ℕ) (f g h : ℕ → ℕ) → ((a : ℕ) → a < n → h a ≡ f a + g a) → sum (each n h) ≡ sum (each n f) + sum (each n g)
 unfolding each
-sum-add n f g h e = sum-map-add (upto n) f g h (λ a m. e a (of-upto n a m))
+sum-add n f g h e = sum-map_add (upto n) f g h (λ a m. e a (of_upto n a m))
 
 pub sum-le : (n : ℕ) (f g : ℕ → ℕ) → ((a : ℕ) → a < n → f a ≤ g a) → sum (each n f) ≤ sum (each n g)
 unfolding each
-sum-le n f g h = sum-map-le (upto n) f g (λ a m. h a (of-upto n a m))
+sum-le n f g h = sum-map_le (upto n) f g (λ a m. h a (of_upto n a m))
 
 pub sum-const : (n c : ℕ) → sum (each n (λ a. c)) ≡ n * c
 unfolding each
-sum-const n c = sum-map-const (upto n) c ∙ ap (λ k. k * c) (length-upto n)
+sum-const n c = sum-map_const (upto n) c ∙ ap (λ k. k * c) (length-upto n)
 
 -- nowhere more, and at x less
 pub sum_lt : (n : ℕ) (f g : ℕ → ℕ) → ((a : ℕ) → a < n → f a ≤ g a) → (x : ℕ) → x < n → f x < g x → sum (each n f) < sum (each n g)
@@ -84,11 +84,11 @@ count-sum p (x ∷ l) = ap (λ k. cond (p x) 1 0 + k) (count-sum p l)
 pub sum-swap : {A B : Type 0} (r : A → B → Bool) (l : List A) (m : List B)
     → sum (map (λ x. count (map (r x) m)) l) ≡ sum (map (λ y. count (map (λ x. r x y) l)) m)
 unfolding sum
-sum-swap r [] m = sym (sum-map-const m 0 ∙ omega arith)
+sum-swap r [] m = sym (sum-map_const m 0 ∙ omega arith)
 sum-swap r (x ∷ l) m =
     omega (
       arith,
       count-sum (r x) m,
       sum-swap r l m,
-      sum-map-add m (λ y. cond (r x y) 1 0) (λ y. count (map (λ z. r z y) l)) (λ y. count (map (λ z. r z y) (x ∷ l))) (λ y k. refl),
+      sum-map_add m (λ y. cond (r x y) 1 0) (λ y. count (map (λ z. r z y) l)) (λ y. count (map (λ z. r z y) (x ∷ l))) (λ y k. refl),
     )

@@ -13,7 +13,7 @@ use lib.Dec.{ltb}
 use Rattle.lists.specs.Upto.{upto, each}
 use Rattle.lists.specs.Tests.{count, every, some}
 use Rattle.lists.proofs.Steps.{some-append}
-use Rattle.lists.proofs.Upto.{mem-upto, of-upto}
+use Rattle.lists.proofs.Upto.{mem_upto, of_upto}
 
 module _ {A : Type 0} (p : A → Bool) where
   pub every_true : (l : List A) → every (map p l) ≡ true → (x : A) → Memᴰ x l → p x ≡ true
@@ -63,24 +63,24 @@ module _ {A : Type 0} (p : A → Bool) where
       go false q (inr d) ih = ih d e
 
 module _ (n : ℕ) (p : ℕ → Bool) where
-  pub every-true-below : every (each n p) ≡ true → (a : ℕ) → a < n → p a ≡ true
+  pub every-true_below : every (each n p) ≡ true → (a : ℕ) → a < n → p a ≡ true
   unfolding each
-  every-true-below e a h = every_true p (upto n) e a (mem-upto n a h)
+  every-true_below e a h = every_true p (upto n) e a (mem_upto n a h)
 
-  pub every-false-below : every (each n p) ≡ false → (a : ℕ) × (a < n) × (p a ≡ false)
+  pub every-false_below : every (each n p) ≡ false → (a : ℕ) × (a < n) × (p a ≡ false)
   unfolding each
-  every-false-below e = let w = every-false p (upto n) e in (w.0, of-upto n w.0 w.1, w.2)
+  every-false_below e = let w = every-false p (upto n) e in (w.0, of_upto n w.0 w.1, w.2)
 
-  pub every-pass-below : ((a : ℕ) → a < n → p a ≡ true) → every (each n p) ≡ true
+  pub every-pass_below : ((a : ℕ) → a < n → p a ≡ true) → every (each n p) ≡ true
   unfolding each
-  every-pass-below h = every-pass p (upto n) (λ a d. h a (of-upto n a d))
+  every-pass_below h = every-pass p (upto n) (λ a d. h a (of_upto n a d))
 
-  pub some-false-below : some (each n p) ≡ false → (a : ℕ) → a < n → p a ≡ false
+  pub some-false_below : some (each n p) ≡ false → (a : ℕ) → a < n → p a ≡ false
   unfolding each
-  some-false-below e a h = go (p a) refl
+  some-false_below e a h = go (p a) refl
     where
       go : (b : Bool) → p a ≡ b → b ≡ false
-      go true f = absurd (true≢false (sym (some-pass p (upto n) a (mem-upto n a h) f) ∙ e))
+      go true f = absurd (true≢false (sym (some-pass p (upto n) a (mem_upto n a h) f) ∙ e))
       go false f = refl
 
 -- one passes exactly if not none is counted
@@ -90,19 +90,19 @@ some-count [] = refl
 some-count (true ∷ l) = sym (lt-ltb 0 (1 + count l) (omega arith))
 some-count (false ∷ l) = some-count l ∙ ap (ltb 0) (sym (zero-add (count l)))
 
-pub some-true-count : (l : List Bool) → some l ≡ true → 0 < count l
-some-true-count l e = ltb-true 0 _ (sym (some-count l) ∙ e)
+pub some-true_count : (l : List Bool) → some l ≡ true → 0 < count l
+some-true_count l e = ltb-true 0 _ (sym (some-count l) ∙ e)
 
-pub some-false-count : (l : List Bool) → some l ≡ false → count l ≡ 0
-some-false-count l e = let h : count l ≤ 0 = ltb-false 0 _ (sym (some-count l) ∙ e) in omega arith
+pub some-false_count : (l : List Bool) → some l ≡ false → count l ≡ 0
+some-false_count l e = let h : count l ≤ 0 = ltb-false 0 _ (sym (some-count l) ∙ e) in omega arith
 
 -- at most one passes
 pub some_one : (l : List Bool) → count l ≤ 1 → cond {A = ℕ} (some l) 1 0 ≡ count l
 some_one l h = go (some l) refl
   where
     go : (b : Bool) → some l ≡ b → cond {A = ℕ} b 1 0 ≡ count l
-    go true e = omega (arith, some-true-count l e)
-    go false e = sym (some-false-count l e)
+    go true e = omega (arith, some-true_count l e)
+    go false e = sym (some-false_count l e)
 
 -- one element more at the end
 pub some-snoc : {A : Type 0} (p : A → Bool) (l : List A) (x : A) → some (map p (l ++ (x ∷ []))) ≡ (some (map p l) || p x)

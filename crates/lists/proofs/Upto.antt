@@ -13,23 +13,23 @@ use lib.Seq.{take-suc, take-length}
 use Rattle.lists.specs.Upto.{from, upto, each}
 use Rattle.lists.proofs.Steps.{each-zero, each_next}
 
-getD-from : {A : Type 0} (f : ℕ → A) (k n i : ℕ) (d : A) → i < n → get_or (map f (from k n)) i d ≡ f (k + i)
+get_or-from : {A : Type 0} (f : ℕ → A) (k n i : ℕ) (d : A) → i < n → get_or (map f (from k n)) i d ≡ f (k + i)
 unfolding from
-getD-from f k zero i d h = absurd (not-suc-le-zero h)
-getD-from f k (suc n) zero d h = rw add-zero
-getD-from f k (suc n) (suc i) d h = getD-from f (suc k) n i d (omega arith) ∙ ap f (omega arith)
+get_or-from f k zero i d h = absurd (not-suc-le-zero h)
+get_or-from f k (suc n) zero d h = rw add-zero
+get_or-from f k (suc n) (suc i) d h = get_or-from f (suc k) n i d (omega arith) ∙ ap f (omega arith)
 
-pub getD-each : {A : Type 0} (n : ℕ) (f : ℕ → A) (i : ℕ) (d : A) → i < n → get_or (each n f) i d ≡ f i
+pub get_or-each : {A : Type 0} (n : ℕ) (f : ℕ → A) (i : ℕ) (d : A) → i < n → get_or (each n f) i d ≡ f i
 unfolding each
-getD-each n f i d h = getD-from f 0 n i d h ∙ ap f (zero-add i)
+get_or-each n f i d h = get_or-from f 0 n i d h ∙ ap f (zero-add i)
 
-pub getD-upto : (n i d : ℕ) → i < n → get_or (upto n) i d ≡ i
+pub get_or-upto : (n i d : ℕ) → i < n → get_or (upto n) i d ≡ i
 unfolding each
-getD-upto n i d h = ap (λ l. get_or l i d) (sym (map-id (upto n))) ∙ getD-each n (λ a. a) i d h
+get_or-upto n i d h = ap (λ l. get_or l i d) (sym (map-id (upto n))) ∙ get_or-each n (λ a. a) i d h
 
 -- two such lists that are equal are so place by place
 pub each_at : {A : Type 0} (d : A) {n n' : ℕ} (f f' : ℕ → A) → each n f ≡ each n' f' → (i : ℕ) → i < n → i < n' → f i ≡ f' i
-each_at d {n} {n'} f f' e i h h' = sym (getD-each n f i d h) ∙ ap (λ l. get_or l i d) e ∙ getD-each n' f' i d h'
+each_at d {n} {n'} f f' e i h h' = sym (get_or-each n f i d h) ∙ ap (λ l. get_or l i d) e ∙ get_or-each n' f' i d h'
 
 from-eq : {A : Type 0} (f g : ℕ → A) (k n : ℕ) → ((a : ℕ) → a < k + n → f a ≡ g a) → map f (from k n) ≡ map g (from k n)
 unfolding from
@@ -62,38 +62,38 @@ each_take l zero d h = each-zero (λ i. get_or l i d)
 each_take l (suc k) d h =
     each_next k (λ i. get_or l i d) ∙ ap (λ r. r ++ (get_or l k d ∷ [])) (each_take l k d (omega arith)) ∙ sym (take-suc l k d h)
 
-pub each-getD : {A B : Type 0} (f : A → B) (l : List A) (d : A) → each (length l) (λ i. f (get_or l i d)) ≡ map f l
-each-getD f l d =
+pub each-get_or : {A B : Type 0} (f : A → B) (l : List A) (d : A) → each (length l) (λ i. f (get_or l i d)) ≡ map f l
+each-get_or f l d =
     sym (map_each f (length l) (λ i. get_or l i d)) ∙ ap (map f) (each_take l (length l) d (omega arith) ∙ take-length l)
 
-mem-from : (k n a : ℕ) → k ≤ a → a < k + n → Memᴰ a (from k n)
+mem_from : (k n a : ℕ) → k ≤ a → a < k + n → Memᴰ a (from k n)
 unfolding from
-mem-from k zero a h l = absurd (omega arith)
-mem-from k (suc n) a h l = go (mem-from (suc k) n a) (ℕ_discrete a k)
+mem_from k zero a h l = absurd (omega arith)
+mem_from k (suc n) a h l = go (mem_from (suc k) n a) (ℕ_discrete a k)
   where
     go : (suc k ≤ a → a < suc k + n → Memᴰ a (from (suc k) n)) → Dec (a ≡ k) → Memᴰ a (k ∷ from (suc k) n)
     go ih (yes e) = Memᴰ.head e
     go ih (no e) = Memᴰ.tail (ih (omega arith) (omega arith))
 
-pub of-from : (k n a : ℕ) → Memᴰ a (from k n) → (k ≤ a) × (a < k + n)
+pub of_from : (k n a : ℕ) → Memᴰ a (from k n) → (k ≤ a) × (a < k + n)
 unfolding from
-of-from k zero a m = absurd (Memᴰ.not-nil m)
-of-from k (suc n) a m = go (of-from (suc k) n a) (Memᴰ.cases_cons m)
+of_from k zero a m = absurd (Memᴰ.not-nil m)
+of_from k (suc n) a m = go (of_from (suc k) n a) (Memᴰ.cases_cons m)
   where
     go : (Memᴰ a (from (suc k) n) → (suc k ≤ a) × (a < suc k + n)) → (a ≡ k) ⊎ Memᴰ a (from (suc k) n) → (k ≤ a) × (a < k + suc n)
     go ih (inl e) = omega arith
     go ih (inr m) = let h = ih m in omega arith
 
-pub mem-upto : (n a : ℕ) → a < n → Memᴰ a (upto n)
-mem-upto n a h = mem-from 0 n a (omega arith) (omega arith)
+pub mem_upto : (n a : ℕ) → a < n → Memᴰ a (upto n)
+mem_upto n a h = mem_from 0 n a (omega arith) (omega arith)
 
-pub of-upto : (n a : ℕ) → Memᴰ a (upto n) → a < n
-of-upto n a m = let h = of-from 0 n a m in omega arith
+pub of_upto : (n a : ℕ) → Memᴰ a (upto n) → a < n
+of_upto n a m = let h = of_from 0 n a m in omega arith
 
-pub mem-each : {A : Type 0} (n : ℕ) (f : ℕ → A) (a : ℕ) → a < n → Memᴰ (f a) (each n f)
+pub mem_each : {A : Type 0} (n : ℕ) (f : ℕ → A) (a : ℕ) → a < n → Memᴰ (f a) (each n f)
 unfolding each
-mem-each n f a h = Memᴰ.map f (mem-upto n a h)
+mem_each n f a h = Memᴰ.map f (mem_upto n a h)
 
-pub of-each : {A : Type 0} (n : ℕ) (f : ℕ → A) (x : A) → Memᴰ x (each n f) → (a : ℕ) × (a < n) × (f a ≡ x)
+pub of_each : {A : Type 0} (n : ℕ) (f : ℕ → A) (x : A) → Memᴰ x (each n f) → (a : ℕ) × (a < n) × (f a ≡ x)
 unfolding each
-of-each n f x m = let w = Memᴰ.of_map f (upto n) m in (w.0, of-upto n w.0 w.1, w.2)
+of_each n f x m = let w = Memᴰ.of_map f (upto n) m in (w.0, of_upto n w.0 w.1, w.2)

@@ -8,49 +8,49 @@ use lib.Dec.{eqb, ltb}
 use lib.ListN.{length, get_or}
 use Rattle.lists.specs.Upto.{upto, each, sum}
 use Rattle.lists.specs.Tests.{keep, count}
-use Rattle.lists.proofs.Upto.{each-eq, of-upto}
+use Rattle.lists.proofs.Upto.{each-eq, of_upto}
 use Rattle.lists.proofs.Members.{map-eq}
-use Rattle.lists.proofs.Kept.{keep-eq, of-keep}
+use Rattle.lists.proofs.Kept.{keep-eq, of_keep}
 use Rattle.lists.proofs.Permutation.{count-perm, sum-perm}
 use Rattle.lists.proofs.Shuffled.{shuffle-onto, each-perm}
 use Rattle.molecule.specs.Kinds.{number_of}
 use Rattle.molecule.specs.Molecule.{Molecule, kind, hydrogens, bonded, neighbours}
 use Rattle.molecule.specs.Renumbering.{Renumbered}
-use Rattle.molecule.specs.Written.{atomBytes, bondBytes, cardBytes}
+use Rattle.molecule.specs.Written.{atom_bytes, bond_bytes, card_bytes}
 use Rattle.molecule.proofs.Sound.{Sound, Linked}
-use Rattle.molecule.proofs.Neighbours.{of-neighbours, length-neighbours}
+use Rattle.molecule.proofs.Neighbours.{of_neighbours, length-neighbours}
 use Rattle.molecule.proofs.Connected.{Even, Closed}
 
 module _ {M M' : Molecule} (E : Renumbered (λ a. a) M M') where
   pub neighbours-alike : (a : ℕ) → a < M.size → neighbours M a ≡ neighbours M' a
   unfolding neighbours
   neighbours-alike a h =
-      keep-eq (upto M.size) (bonded M a) (bonded M' a) (λ b m. ap (λ c. not (eqb c 0)) (sym (E.code a b h (of-upto M.size b m))))
+      keep-eq (upto M.size) (bonded M a) (bonded M' a) (λ b m. ap (λ c. not (eqb c 0)) (sym (E.code a b h (of_upto M.size b m))))
       ∙ ap (λ n. keep (bonded M' a) (upto n)) (sym E.size)
 
-  atomBytes-alike : (a : ℕ) → a < M.size → atomBytes M a ≡ atomBytes M' a
-  unfolding atomBytes
-  atomBytes-alike a h = ap (λ l. number_of (get_or l 0 0) ∷ get_or l 1 0 ∷ []) (sym (E.label a h))
+  atom_bytes-alike : (a : ℕ) → a < M.size → atom_bytes M a ≡ atom_bytes M' a
+  unfolding atom_bytes
+  atom_bytes-alike a h = ap (λ l. number_of (get_or l 0 0) ∷ get_or l 1 0 ∷ []) (sym (E.label a h))
 
-  bondBytes-alike : (a : ℕ) → a < M.size → bondBytes M a ≡ bondBytes M' a
-  unfolding bondBytes
-  bondBytes-alike a h =
+  bond_bytes-alike : (a : ℕ) → a < M.size → bond_bytes M a ≡ bond_bytes M' a
+  unfolding bond_bytes
+  bond_bytes-alike a h =
       ap flatten
       (map-eq (keep (ltb a) (neighbours M a)) (λ b. a ∷ b ∷ M.code a b ∷ []) (λ b. a ∷ b ∷ M'.code a b ∷ [])
-      (λ b m. ap (λ c. a ∷ b ∷ c ∷ []) (sym (E.code a b h (of-neighbours M a b (of-keep (ltb a) (neighbours M a) b m).0).0)))
+      (λ b m. ap (λ c. a ∷ b ∷ c ∷ []) (sym (E.code a b h (of_neighbours M a b (of_keep (ltb a) (neighbours M a) b m).0).0)))
       ∙ ap (λ l. map (λ b. a ∷ b ∷ M'.code a b ∷ []) (keep (ltb a) l)) (neighbours-alike a h))
 
   each-alike : {A : Type 0} (f f' : ℕ → A) → ((a : ℕ) → a < M.size → f a ≡ f' a) → each M.size f ≡ each M'.size f'
   each-alike f f' h = each-eq M.size f f' h ∙ ap (λ n. each n f') (sym E.size)
 
-  pub cardBytes-alike : cardBytes M ≡ cardBytes M'
-  unfolding cardBytes
-  cardBytes-alike =
-      rw (each-alike (atomBytes M) (atomBytes M') atomBytes-alike, each-alike (bondBytes M) (bondBytes M') bondBytes-alike)
+  pub card_bytes-alike : card_bytes M ≡ card_bytes M'
+  unfolding card_bytes
+  card_bytes-alike =
+      rw (each-alike (atom_bytes M) (atom_bytes M') atom_bytes-alike, each-alike (bond_bytes M) (bond_bytes M') bond_bytes-alike)
 
 -- a closed set that has any atom has atom 0, since else the others would be a closed set that has it
-any-atom : (M : Molecule) → Even M → Linked M → (S : ℕ → Bool) → Closed M S → (a : ℕ) → a < M.size → S a ≡ true → S 0 ≡ true
-any-atom M even L S c a h e = go (S 0) refl
+any_atom : (M : Molecule) → Even M → Linked M → (S : ℕ → Bool) → Closed M S → (a : ℕ) → a < M.size → S a ≡ true → S 0 ≡ true
+any_atom M even L S c a h e = go (S 0) refl
   where
     others : Closed M (λ b. not (S b))
     others b d k l f q = pick (S d) refl
@@ -88,7 +88,7 @@ module _ {σ : ℕ → ℕ} {M M' : Molecule} (E : Renumbered σ M M') where
 
   linked-along : Even M → 0 < M.size → Linked M → Linked M'
   linked-along even s L S z c =
-      over (λ b. S b ≡ true) (L (λ a. S (σ a)) (any-atom M even L (λ a. S (σ a)) closed w.0 w.1 (ap S w.2 ∙ z)) closed)
+      over (λ b. S b ≡ true) (L (λ a. S (σ a)) (any_atom M even L (λ a. S (σ a)) closed w.0 w.1 (ap S w.2 ∙ z)) closed)
     where
       w : (a : ℕ) × (a < M.size) × (σ a ≡ 0)
       w = shuffle-onto E.shuffle 0 s

@@ -11,8 +11,8 @@ use lib.ListN.{length}
 use borrow.Author.Tests.{eqb-true}
 use Rattle.lists.specs.Upto.{upto, each, sum}
 use Rattle.lists.specs.Tests.{keep, count}
-use Rattle.lists.proofs.Booleans.{and_both, or-either}
-use Rattle.lists.proofs.Sums.{sum-map-const, sum-swap}
+use Rattle.lists.proofs.Booleans.{and_both, or_either}
+use Rattle.lists.proofs.Sums.{sum-map_const, sum-swap}
 use Rattle.lists.proofs.Members.{map-eq}
 use Rattle.lists.proofs.Counts.{count_none, count-split, count-cover, count-pick, count-only}
 use Rattle.molecule.specs.Bonds.{Bond, on, joins, code_in}
@@ -25,15 +25,15 @@ abbrev pub Between : ℕ → ℕ → Bond → Type 0
 Between p q b = ((b.one ≡ p) × (b.two ≡ q)) ⊎ ((b.one ≡ q) × (b.two ≡ p))
 
 pub joins-ends : (p q : ℕ) (b : Bond) → joins p q b ≡ true → Between p q b
-joins-ends p q b e = go (or-either _ _ e)
+joins-ends p q b e = go (or_either _ _ e)
   where
     go : ((eqb b.one p && eqb b.two q) ≡ true) ⊎ ((eqb b.one q && eqb b.two p) ≡ true) → Between p q b
     go (inl f) = let w = and_both _ _ f in inl (eqb-true _ _ w.0, eqb-true _ _ w.1)
     go (inr f) = let w = and_both _ _ f in inr (eqb-true _ _ w.0, eqb-true _ _ w.1)
 
-pub codeIn-swap : (bs : List Bond) (p q : ℕ) → code_in bs p q ≡ code_in bs q p
-codeIn-swap [] p q = refl
-codeIn-swap (b ∷ bs) p q = λ i. cond (joins-swap p q b i) b.code (codeIn-swap bs p q i)
+pub code_in-swap : (bs : List Bond) (p q : ℕ) → code_in bs p q ≡ code_in bs q p
+code_in-swap [] p q = refl
+code_in-swap (b ∷ bs) p q = λ i. cond (joins-swap p q b i) b.code (code_in-swap bs p q i)
 
 -- the code is that of a bond which joins the two, and is 0 if none does
 abbrev pub Coded : List Bond → ℕ → ℕ → Type 0
@@ -41,9 +41,9 @@ Coded bs p q =
     ((b : Bond) × Memᴰ b bs × (joins p q b ≡ true) × (code_in bs p q ≡ b.code))
     ⊎ (((b : Bond) → Memᴰ b bs → joins p q b ≡ false) × (code_in bs p q ≡ 0))
 
-pub codeIn-coded : (bs : List Bond) (p q : ℕ) → Coded bs p q
-codeIn-coded [] p q = inr (λ b m. absurd (Memᴰ.not-nil m), refl)
-codeIn-coded (b ∷ bs) p q = go (joins p q b) refl (codeIn-coded bs p q)
+pub code_in-coded : (bs : List Bond) (p q : ℕ) → Coded bs p q
+code_in-coded [] p q = inr (λ b m. absurd (Memᴰ.not-nil m), refl)
+code_in-coded (b ∷ bs) p q = go (joins p q b) refl (code_in-coded bs p q)
   where
     go : (s : Bool) → joins p q b ≡ s → Coded bs p q → Coded (b ∷ bs) p q
     go true e w = inl (b, Memᴰ.head refl, e, rw e)
@@ -51,10 +51,10 @@ codeIn-coded (b ∷ bs) p q = go (joins p q b) refl (codeIn-coded bs p q)
     go false e (inr w) = inr (λ c m. ⊎_elim (λ (f : c ≡ b). ap (joins p q) f ∙ e) (w.0 c) (Memᴰ.cases_cons m), rw e w.1)
 
 -- the code of two atoms is decided by the bonds that may join them
-pub codeIn-keep : (f : Bond → Bool) (p q : ℕ) (bs : List Bond) → ((b : Bond) → Memᴰ b bs → joins p q b ≡ true → f b ≡ true) → code_in bs p q ≡ code_in (keep f bs) p q
+pub code_in-keep : (f : Bond → Bool) (p q : ℕ) (bs : List Bond) → ((b : Bond) → Memᴰ b bs → joins p q b ≡ true → f b ≡ true) → code_in bs p q ≡ code_in (keep f bs) p q
 unfolding keep
-codeIn-keep f p q [] h = refl
-codeIn-keep f p q (b ∷ bs) h = go (f b) (joins p q b) refl refl (codeIn-keep f p q bs (λ c m. h c (Memᴰ.tail m)))
+code_in-keep f p q [] h = refl
+code_in-keep f p q (b ∷ bs) h = go (f b) (joins p q b) refl refl (code_in-keep f p q bs (λ c m. h c (Memᴰ.tail m)))
   where
     go : (s t : Bool) → f b ≡ s → joins p q b ≡ t → code_in bs p q ≡ code_in (keep f bs) p q
         → cond (joins p q b) b.code (code_in bs p q) ≡ code_in (cond s (b ∷ keep f bs) (keep f bs)) p q
@@ -63,16 +63,16 @@ codeIn-keep f p q (b ∷ bs) h = go (f b) (joins p q b) refl refl (codeIn-keep f
     go false false e j ih = rw j ih
 
 -- a bound on every code
-pub codeIn-le : (bs : List Bond) (p q m : ℕ) → ((b : Bond) → Memᴰ b bs → b.code ≤ m) → code_in bs p q ≤ m
-codeIn-le bs p q m h = go (codeIn-coded bs p q)
+pub code_in-le : (bs : List Bond) (p q m : ℕ) → ((b : Bond) → Memᴰ b bs → b.code ≤ m) → code_in bs p q ≤ m
+code_in-le bs p q m h = go (code_in-coded bs p q)
   where
     go : Coded bs p q → code_in bs p q ≤ m
     go (inl w) = omega (arith, w.3, h w.0 w.1)
     go (inr w) = omega (arith, w.1)
 
 -- no atom has a bond to itself where every bond has two ends
-pub codeIn-self : (bs : List Bond) (p : ℕ) → ((b : Bond) → Memᴰ b bs → b.one ≢ b.two) → code_in bs p p ≡ 0
-codeIn-self bs p h = go (codeIn-coded bs p p)
+pub code_in-self : (bs : List Bond) (p : ℕ) → ((b : Bond) → Memᴰ b bs → b.one ≢ b.two) → code_in bs p p ≡ 0
+code_in-self bs p h = go (code_in-coded bs p p)
   where
     same : (b : Bond) → Between p p b → b.one ≡ b.two
     same b (inl w) = omega arith
@@ -135,5 +135,5 @@ unfolding each
 sum-on n bs h =
     sum-swap on (upto n) bs
     ∙ ap sum (map-eq bs (λ b. count (map (λ p. on p b) (upto n))) (λ b. 2) (λ b m. ends-count n (λ p. true) b (h b m)))
-    ∙ sum-map-const bs 2
+    ∙ sum-map_const bs 2
     ∙ omega arith

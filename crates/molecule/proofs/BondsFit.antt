@@ -17,7 +17,7 @@ use Rattle.lists.proofs.Booleans.{and_both, eqb_swap}
 use Rattle.lists.proofs.Sums.{sum-eq, sum-add, sum-le, sum-pick, count-sum}
 use Rattle.lists.proofs.Counts.{count-eq, count-le, count-split, count_none, count-pick, count-only}
 use Rattle.lists.proofs.Passed.{count-take}
-use Rattle.lists.proofs.Members.{getD-mem}
+use Rattle.lists.proofs.Members.{get_or-mem}
 use Rattle.lists.proofs.Tested.{some-count}
 use Rattle.molecule.specs.Bonds.{Bond, on, joins}
 use Rattle.molecule.specs.Molecule.{Molecule, bonded, neighbours}
@@ -25,10 +25,10 @@ use Rattle.molecule.proofs.Sound.{Sound}
 use Rattle.molecule.proofs.Neighbours.{length-neighbours}
 use Rattle.molecule.proofs.BondLists.{Ends, Between, joins-ends, sum-on}
 use Rattle.molecule.proofs.Judging.{Fits}
-use Rattle.molecule.proofs.BondsOf.{bond, bondsOf, Listed, of-bondsOf, picked, bondsOf-count}
+use Rattle.molecule.proofs.BondsOf.{bond, bonds_of, Listed, of_bonds_of, picked, bonds_of-count}
 
-pub listed-ends : (M : Molecule) (b : Bond) → Listed M b → Ends M.size b
-listed-ends M b L = omega (arith, L.ascends, L.inside)
+pub listed_ends : (M : Molecule) (b : Bond) → Listed M b → Ends M.size b
+listed_ends M b L = omega (arith, L.ascends, L.inside)
 
 module _ (M : Molecule) (S : Sound M) where
   abbrev after : ℕ → ℕ → Bool
@@ -61,12 +61,12 @@ module _ (M : Molecule) (S : Sound M) where
       go b (no l) (yes m) = simp (le-ltb p b (omega arith), lt-ltb b p m, and-true, and-false) (sym (zero-add _))
       go b (no l) (no m) = let e : b ≡ p = omega arith in rw e (simp (S.apart p h))
 
-  on-count : (p : ℕ) → p < M.size → count (map (on p) (bondsOf M)) ≡ length (neighbours M p)
+  on-count : (p : ℕ) → p < M.size → count (map (on p) (bonds_of M)) ≡ length (neighbours M p)
   unfolding each
   on-count p h =
       omega (
         arith,
-        bondsOf-count M (on p),
+        bonds_of-count M (on p),
         sum-add M.size (λ a. cond (eqb a p) (count (each M.size (after p))) 0) (λ a. cond (before p a) 1 0) _ (λ a k. on_row p a h k),
         sum-pick M.size p (count (each M.size (after p))) h,
         count-sum (before p) (upto M.size),
@@ -74,11 +74,11 @@ module _ (M : Molecule) (S : Sound M) where
         length-neighbours M p,
       )
 
-  joins-once : (p q : ℕ) → p < q → p < M.size → count (map (joins p q) (bondsOf M)) ≤ 1
+  joins-once : (p q : ℕ) → p < q → p < M.size → count (map (joins p q) (bonds_of M)) ≤ 1
   joins-once p q l h =
       omega (
         arith,
-        bondsOf-count M (joins p q),
+        bonds_of-count M (joins p q),
         sum-le M.size row (λ a. cond (eqb a p) 1 0) (λ a k. go a (ℕ_discrete a p)),
         sum-pick M.size p 1 h,
       )
@@ -101,20 +101,20 @@ module _ (M : Molecule) (S : Sound M) where
       go a (no e) =
           omega (arith, count-le M.size (picked M (joins p q) a) (λ b. false) (λ b k f. absurd (e (passes a b f).0)), count_none M.size (λ b. false) (λ b k. refl))
 
-  pub bondsOf-few : length (bondsOf M) ≤ 80
-  bondsOf-few =
+  pub bonds_of-few : length (bonds_of M) ≤ 80
+  bonds_of-few =
       omega (
         arith,
-        sum-on M.size (bondsOf M) (λ b m. listed-ends M b (of-bondsOf M b m)),
-        sum-eq M.size (λ p. count (map (on p) (bondsOf M))) (λ p. length (neighbours M p)) on-count,
+        sum-on M.size (bonds_of M) (λ b m. listed_ends M b (of_bonds_of M b m)),
+        sum-eq M.size (λ p. count (map (on p) (bonds_of M))) (λ p. length (neighbours M p)) on-count,
         S.bonds,
       )
 
-  pub bondsOf-fits : (k : ℕ) (z : Bond) → k < length (bondsOf M) → Fits M.size (take k (bondsOf M)) (get_or (bondsOf M) k z)
-  bondsOf-fits k z h =
+  pub bonds_of-fits : (k : ℕ) (z : Bond) → k < length (bonds_of M) → Fits M.size (take k (bonds_of M)) (get_or (bonds_of M) k z)
+  bonds_of-fits k z h =
       record {
         ends = E;
-        first = some-count (map (joins b.one b.two) (take k (bondsOf M))) ∙ ap (ltb 0) unjoined;
+        first = some-count (map (joins b.one b.two) (take k (bonds_of M))) ∙ ap (ltb 0) unjoined;
         some = let c : b.code ≢ 0 = L.coded in omega arith;
         known = omega (arith, L.is, S.codes b.one b.two E.0 E.1);
         room-one = room b.one E.0 (rw (eq-eqb b.one b.one refl));
@@ -122,18 +122,18 @@ module _ (M : Molecule) (S : Sound M) where
       }
     where
       b : Bond
-      b = get_or (bondsOf M) k z
+      b = get_or (bonds_of M) k z
 
       L : Listed M b
-      L = of-bondsOf M b (getD-mem (bondsOf M) k z h)
+      L = of_bonds_of M b (get_or-mem (bonds_of M) k z h)
 
       E : Ends M.size b
-      E = listed-ends M b L
+      E = listed_ends M b L
 
-      unjoined : count (map (joins b.one b.two) (take k (bondsOf M))) ≡ 0
+      unjoined : count (map (joins b.one b.two) (take k (bonds_of M))) ≡ 0
       unjoined =
           let here : joins b.one b.two b ≡ true = simp (eq-eqb b.one b.one refl, eq-eqb b.two b.two refl) in
-          omega (arith, count-take (joins b.one b.two) (bondsOf M) k z h here, joins-once b.one b.two L.ascends E.0)
+          omega (arith, count-take (joins b.one b.two) (bonds_of M) k z h here, joins-once b.one b.two L.ascends E.0)
 
-      room : (p : ℕ) → p < M.size → on p b ≡ true → count (map (on p) (take k (bondsOf M))) < 6
-      room p l e = omega (arith, count-take (on p) (bondsOf M) k z h e, on-count p l, S.degrees p l)
+      room : (p : ℕ) → p < M.size → on p b ≡ true → count (map (on p) (take k (bonds_of M))) < 6
+      room p l e = omega (arith, count-take (on p) (bonds_of M) k z h e, on-count p l, S.degrees p l)

@@ -11,12 +11,12 @@ use lib.ListN.{get_or}
 use borrow.Author.Tests.{eqb-true}
 use Rattle.lists.specs.Upto.{each}
 use Rattle.lists.specs.Tests.{count, every, some}
-use Rattle.lists.proofs.Upto.{getD-each, each-eq}
-use Rattle.lists.proofs.Tested.{some-true, some-pass, every-true-below, every-false-below, every-pass-below}
+use Rattle.lists.proofs.Upto.{get_or-each, each-eq}
+use Rattle.lists.proofs.Tested.{some-true, some-pass, every-true_below, every-false_below, every-pass_below}
 use Rattle.lists.proofs.Counts.{count-lt, count-below, count-one, count-le}
 use Rattle.molecule.specs.Molecule.{Molecule, neighbours, reached, connected}
 use Rattle.molecule.proofs.Sound.{Linked}
-use Rattle.molecule.proofs.Neighbours.{mem-neighbours, of-neighbours}
+use Rattle.molecule.proofs.Neighbours.{mem_neighbours, of_neighbours}
 
 -- the code of two atoms does not depend on which comes first
 abbrev pub Even : Molecule → Type 0
@@ -32,11 +32,11 @@ module _ (M : Molecule) where
 
   at_first : (a : ℕ) → a < M.size → at 0 a ≡ eqb a 0
   unfolding reached
-  at_first a h = getD-each M.size (λ b. eqb b 0) a false h
+  at_first a h = get_or-each M.size (λ b. eqb b 0) a false h
 
   at_next : (k a : ℕ) → a < M.size → at (suc k) a ≡ (at k a || some (map (at k) (neighbours M a)))
   unfolding reached
-  at_next k a h = getD-each M.size (λ b. at k b || some (map (at k) (neighbours M b))) a false h
+  at_next k a h = get_or-each M.size (λ b. at k b || some (map (at k) (neighbours M b))) a false h
 
   reached-each : (k : ℕ) → reached M k ≡ each M.size (at k)
   unfolding reached
@@ -51,7 +51,7 @@ module _ (M : Molecule) where
   stays k a h e = at_next k a h ∙ rw e
 
   spreads : (k a b : ℕ) → a < M.size → b < M.size → M.code a b ≢ 0 → at k b ≡ true → at (suc k) a ≡ true
-  spreads k a b h l c e = at_next k a h ∙ rw (some-pass (at k) (neighbours M a) b (mem-neighbours M a b l c) e, or-true)
+  spreads k a b h l c e = at_next k a h ∙ rw (some-pass (at k) (neighbours M a) b (mem_neighbours M a b l c) e, or-true)
 
   -- a was reached, or a neighbour was
   abbrev Came : ℕ → ℕ → Type 0
@@ -64,7 +64,7 @@ module _ (M : Molecule) where
       go true p f = inl p
       go false p f =
           let w = some-true (at k) (neighbours M a) f in
-          let n = of-neighbours M a w.0 w.1 in
+          let n = of_neighbours M a w.0 w.1 in
           inr (w.0, n.0, n.1, w.2)
 
   origin : 0 < M.size → (k : ℕ) → at k 0 ≡ true
@@ -75,8 +75,8 @@ module _ (M : Molecule) where
   abbrev Still : ℕ → Type 0
   Still k = (a : ℕ) → a < M.size → at (suc k) a ≡ true → at k a ≡ true
 
-  still-next : (k : ℕ) → Still k → Still (suc k)
-  still-next k s a h e = go (came (suc k) a h e)
+  still_next : (k : ℕ) → Still k → Still (suc k)
+  still_next k s a h e = go (came (suc k) a h e)
     where
       go : Came (suc k) a → at (suc k) a ≡ true
       go (inl p) = p
@@ -91,17 +91,17 @@ module _ (M : Molecule) where
   grows s (suc k) = go (grows s k) (every (each M.size (old k))) refl
     where
       still : every (each M.size (old k)) ≡ true → Still k
-      still e a h f = sym (rw f) ∙ every-true-below M.size (old k) e a h
+      still e a h f = sym (rw f) ∙ every-true_below M.size (old k) e a h
 
       fresh : (t u : Bool) → (not t || u) ≡ false → (t ≡ true) × (u ≡ false)
       fresh true u e = (refl, e)
       fresh false u e = absurd (true≢false e)
 
       go : Still k ⊎ (k < count (each M.size (at k))) → (b : Bool) → every (each M.size (old k)) ≡ b → Still (suc k) ⊎ (suc k < count (each M.size (at (suc k))))
-      go (inl t) b e = inl (still-next k t)
-      go (inr l) true e = inl (still-next k (still e))
+      go (inl t) b e = inl (still_next k t)
+      go (inr l) true e = inl (still_next k (still e))
       go (inr l) false e =
-          let w = every-false-below M.size (old k) e in
+          let w = every-false_below M.size (old k) e in
           let f = fresh (at (suc k) w.0) (at k w.0) w.2 in
           inr (omega (arith, count-lt M.size (at k) (at (suc k)) (stays k) w.0 w.1 f.1 f.0))
 
@@ -124,10 +124,10 @@ module _ (M : Molecule) where
         go ih (inr w) = c w.0 a w.1 h (ih w.0 w.1 w.3) (λ q. w.2 (even a w.0 h w.1 ∙ q))
 
     pub connected-linked : connected M ≡ true → Linked M
-    connected-linked e S z c a h = within S z c M.size a h (every-true-below M.size (at M.size) (sym connected-each ∙ e) a h)
+    connected-linked e S z c a h = within S z c M.size a h (every-true_below M.size (at M.size) (sym connected-each ∙ e) a h)
 
     pub linked-connected : 0 < M.size → Linked M → connected M ≡ true
-    linked-connected s L = connected-each ∙ every-pass-below M.size (at M.size) (L (at M.size) (origin s M.size) closed)
+    linked-connected s L = connected-each ∙ every-pass_below M.size (at M.size) (L (at M.size) (origin s M.size) closed)
       where
         closed : Closed M (at M.size)
         closed a b h l e c = settled s b l (spreads M.size b a l h (λ q. c (even a b h l ∙ q)) e)

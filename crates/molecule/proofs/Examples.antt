@@ -5,29 +5,29 @@ use Prim.Native.Nat.{ℕ}
 use Prim.Native.String.{String}
 use Rattle.lists.specs.Upto.{each}
 use Rattle.lists.specs.Quoted.{bytes_of, hex}
-use Rattle.molecule.specs.Kinds.{symbol_of, number_of, kindOfSymbol, kindOfNumber}
-use Rattle.molecule.specs.Judged.{moleculeOf, cardFault}
-use Rattle.molecule.specs.Written.{field, cardBytes}
+use Rattle.molecule.specs.Kinds.{symbol_of, number_of, kind_of_symbol, kind_of_number}
+use Rattle.molecule.specs.Judged.{molecule_of, card_fault}
+use Rattle.molecule.specs.Written.{field, card_bytes}
 use Rattle.molecule.proofs.Open.{molecule}
 
 -- each kind is found again by its number and by its symbol, and what is no kind is 25
-numbers-found : each 26 (λ k. kindOfNumber (number_of k)) ≡ each 26 (λ k. k)
+numbers-found : each 26 (λ k. kind_of_number (number_of k)) ≡ each 26 (λ k. k)
 unfolding molecule
 numbers-found = refl
 
-symbols-found : each 26 (λ k. kindOfSymbol (symbol_of k)) ≡ each 26 (λ k. k)
+symbols_found : each 26 (λ k. kind_of_symbol (symbol_of k)) ≡ each 26 (λ k. k)
 unfolding molecule
-symbols-found = refl
+symbols_found = refl
 
-some-kinds : map (λ s. kindOfSymbol (bytes_of s)) ("H" ∷ "C" ∷ "Cl" ∷ "Mg" ∷ "X" ∷ "CL" ∷ []) ≡ 0 ∷ 1 ∷ 16 ∷ 24 ∷ 25 ∷ 25 ∷ []
+some-kinds : map (λ s. kind_of_symbol (bytes_of s)) ("H" ∷ "C" ∷ "Cl" ∷ "Mg" ∷ "X" ∷ "CL" ∷ []) ≡ 0 ∷ 1 ∷ 16 ∷ 24 ∷ 25 ∷ 25 ∷ []
 unfolding molecule
 some-kinds = refl
 
 -- cyclopropane's bonds come in drawn round the ring, and are written lower atom first, ascending
-cyclopropane-written :
-    cardBytes (moleculeOf (hex "01 0006 0602 0602 0602 02 0009 000101 010201 020001")) ≡ hex "01 0006 0602 0602 0602 02 0009 000101 000201 010201"
+cyclopropane_written :
+    card_bytes (molecule_of (hex "01 0006 0602 0602 0602 02 0009 000101 010201 020001")) ≡ hex "01 0006 0602 0602 0602 02 0009 000101 000201 010201"
 unfolding molecule
-cyclopropane-written = refl
+cyclopropane_written = refl
 
 record Case : Type 0 where
   card : String
@@ -66,7 +66,7 @@ cases =
     ∷ record { card = "01 0008 0600 0600 0600 0600 02 0006 000101 020301"; fault = 8 }
     ∷ []
 
-judged : map (λ (c : Case). cardFault (hex c.card)) cases ≡ map (λ (c : Case). c.fault) cases
+judged : map (λ (c : Case). card_fault (hex c.card)) cases ≡ map (λ (c : Case). c.fault) cases
 unfolding molecule cases
 judged = refl
 
@@ -77,7 +77,7 @@ alike n h k = field 1 (flatten (each n (λ _. 6 ∷ h ∷ []))) ++ field 2 (flat
 
 -- the limits: at the bound another fault is found, and past it 4
 limits :
-    map cardFault (alike 64 2 0 ∷ alike 65 0 0 ∷ alike 2 0 80 ∷ alike 2 0 81 ∷ alike 32 4 0 ∷ alike 33 4 0 ∷ alike 2 4 0 ∷ alike 2 5 0 ∷ [])
+    map card_fault (alike 64 2 0 ∷ alike 65 0 0 ∷ alike 2 0 80 ∷ alike 2 0 81 ∷ alike 32 4 0 ∷ alike 33 4 0 ∷ alike 2 4 0 ∷ alike 2 5 0 ∷ [])
     ≡ 8 ∷ 4 ∷ 6 ∷ 4 ∷ 8 ∷ 4 ∷ 8 ∷ 4 ∷ []
 unfolding alike
 limits = refl

@@ -26,21 +26,21 @@ kinds =
     ∷ entry "B" 5 ∷ entry "Al" 13 ∷ entry "Li" 3 ∷ entry "Na" 11 ∷ entry "K" 19 ∷ entry "Mg" 12
     ∷ []
 
-abbrev noKind : Kind
-noKind = record { symbol = []; number = 0 }
+abbrev no_kind : Kind
+no_kind = record { symbol = []; number = 0 }
 
 unfoldable pub symbol_of : ℕ → List ℕ
-symbol_of k = (get_or kinds k noKind).symbol
+symbol_of k = (get_or kinds k no_kind).symbol
 
 unfoldable pub number_of : ℕ → ℕ
-number_of k = (get_or kinds k noKind).number
+number_of k = (get_or kinds k no_kind).number
 
-unfoldable pub kindOfSymbol : List ℕ → ℕ
-kindOfSymbol s = find (λ e. compare_is_eq (lex compare e.symbol s)) kinds
+unfoldable pub kind_of_symbol : List ℕ → ℕ
+kind_of_symbol s = find (λ e. compare_is_eq (lex compare e.symbol s)) kinds
 
-unfoldable pub kindOfNumber : ℕ → ℕ
-kindOfNumber z = find (λ e. eqb e.number z) kinds
+unfoldable pub kind_of_number : ℕ → ℕ
+kind_of_number z = find (λ e. eqb e.number z) kinds
 
 -- one of the 24
-abbrev pub isKind : ℕ → Bool
-isKind k = ltb 0 k && leb k 24
+abbrev pub is_kind : ℕ → Bool
+is_kind k = ltb 0 k && leb k 24

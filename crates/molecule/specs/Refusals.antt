@@ -4,9 +4,9 @@ use mathlib.Core.List.{List, foldr}
 use Rattle.std.specs.Prelude.{ℕ, zero, suc}
 
 -- the first fault stands, and the next is looked at only where there is none
-abbrev pub orNext : ℕ → ℕ → ℕ
-orNext zero n = n
-orNext (suc m) n = suc m
+abbrev pub or_next : ℕ → ℕ → ℕ
+or_next zero n = n
+or_next (suc m) n = suc m
 
-unfoldable pub firstFault : List ℕ → ℕ
-firstFault l = foldr orNext 0 l
+unfoldable pub first_fault : List ℕ → ℕ
+first_fault l = foldr or_next 0 l

@@ -10,12 +10,12 @@ use Rattle.molecule.specs.Molecule.{Molecule, kind, hydrogens, neighbours}
 unfoldable pub field : ℕ → List ℕ → List ℕ
 field tag v = tag ∷ (length v / 256) ∷ (length v % 256) ∷ v
 
-unfoldable pub atomBytes : Molecule → ℕ → List ℕ
-atomBytes M a = number_of (kind M a) ∷ hydrogens M a ∷ []
+unfoldable pub atom_bytes : Molecule → ℕ → List ℕ
+atom_bytes M a = number_of (kind M a) ∷ hydrogens M a ∷ []
 
 -- "each bond has its lower atom first, and bonds ascend by first then second atom": those of a to higher atoms
-unfoldable pub bondBytes : Molecule → ℕ → List ℕ
-bondBytes M a = flatten (map (λ b. a ∷ b ∷ M.code a b ∷ []) (keep (ltb a) (neighbours M a)))
+unfoldable pub bond_bytes : Molecule → ℕ → List ℕ
+bond_bytes M a = flatten (map (λ b. a ∷ b ∷ M.code a b ∷ []) (keep (ltb a) (neighbours M a)))
 
-unfoldable pub cardBytes : Molecule → List ℕ
-cardBytes M = field 1 (flatten (each M.size (atomBytes M))) ++ field 2 (flatten (each M.size (bondBytes M)))
+unfoldable pub card_bytes : Molecule → List ℕ
+card_bytes M = field 1 (flatten (each M.size (atom_bytes M))) ++ field 2 (flatten (each M.size (bond_bytes M)))

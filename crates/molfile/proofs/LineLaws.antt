@@ -11,70 +11,70 @@ use lib.Dec.{eqb}
 use borrow.Author.Tests.{eq-eqb, ne_eqb, eqb-true}
 use Rattle.lists.proofs.Booleans.{and_both}
 use Rattle.ctfile.specs.Lines as rules
-use Rattle.ctfile.specs.Lines.{starts_with, lineBytes, lines_from}
-use Rattle.molfile.specs.Cutting.{lineFeed, linesAt, line_of, IsLine}
+use Rattle.ctfile.specs.Lines.{starts_with, line_bytes, lines_from}
+use Rattle.molfile.specs.Cutting.{line_feed, lines_at, line_of, IsLine}
 
-pub feed-here : (s : List ℕ) (i : ℕ) → i < length s → get_or s i 0 ≡ 10 → lineFeed (drop i s) ≡ 0
-feed-here s i h e = rw (drop-cons s i 0 h, eq-eqb _ _ e)
+pub feed_here : (s : List ℕ) (i : ℕ) → i < length s → get_or s i 0 ≡ 10 → line_feed (drop i s) ≡ 0
+feed_here s i h e = rw (drop-cons s i 0 h, eq-eqb _ _ e)
 
-pub feed-on : (s : List ℕ) (i : ℕ) → i < length s → (get_or s i 0 ≡ 10 → ⊥) → lineFeed (drop i s) ≡ suc (lineFeed (drop (i + 1) s))
-feed-on s i h n = rw (drop-cons s i 0 h, ne_eqb _ _ n, add-one i)
+pub feed_on : (s : List ℕ) (i : ℕ) → i < length s → (get_or s i 0 ≡ 10 → ⊥) → line_feed (drop i s) ≡ suc (line_feed (drop (i + 1) s))
+feed_on s i h n = rw (drop-cons s i 0 h, ne_eqb _ _ n, add-one i)
 
-pub feed-out : (s : List ℕ) (i : ℕ) → length s ≤ i → lineFeed (drop i s) ≡ 0
-feed-out s i h = rw (drop_of_length-le s h)
+pub feed_out : (s : List ℕ) (i : ℕ) → length s ≤ i → line_feed (drop i s) ≡ 0
+feed_out s i h = rw (drop_of_length-le s h)
 
-starts : (c : ℕ) (cs : List ℕ) → starts_with 10 (c ∷ cs) ≡ eqb (lineFeed (c ∷ cs)) 0
+starts : (c : ℕ) (cs : List ℕ) → starts_with 10 (c ∷ cs) ≡ eqb (line_feed (c ∷ cs)) 0
 starts c cs = pick (eqb c 10)
   where
-    pick : (b : Bool) → b ≡ eqb (cond b 0 (suc (lineFeed cs))) 0
+    pick : (b : Bool) → b ≡ eqb (cond b 0 (suc (line_feed cs))) 0
     pick true = refl
-    pick false = sym (ne_eqb (suc (lineFeed cs)) 0 (λ q. omega arith))
+    pick false = sym (ne_eqb (suc (line_feed cs)) 0 (λ q. omega arith))
 
-started : (l : List ℕ) → starts_with 10 l ≡ true → (lineFeed l ≡ 0) × (0 < length l)
+started : (l : List ℕ) → starts_with 10 l ≡ true → (line_feed l ≡ 0) × (0 < length l)
 started [] e = absurd (let z : ◌≡◌ {A = ℕ} 0 1 = cc in omega arith)
 started (c ∷ cs) e = (eqb-true _ _ (sym (starts c cs) ∙ e), omega arith)
 
 -- no CR stands directly before the LF
 abbrev Bare : List ℕ → Type 0
-Bare l = (m : ℕ) → lineFeed l ≡ suc m → suc m < length l → get_or l m 0 ≡ 13 → ⊥
+Bare l = (m : ℕ) → line_feed l ≡ suc m → suc m < length l → get_or l m 0 ≡ 13 → ⊥
 
-bare-bytes : (l : List ℕ) → Bare l → lineBytes l ≡ take (lineFeed l) l
-unfolding lineBytes
+bare-bytes : (l : List ℕ) → Bare l → line_bytes l ≡ take (line_feed l) l
+unfolding line_bytes
 bare-bytes [] h = refl
 bare-bytes (b ∷ bs) h = pick (eqb b 10) refl (bare-bytes bs)
   where
-    fed : eqb b 10 ≡ false → lineFeed (b ∷ bs) ≡ suc (lineFeed bs)
+    fed : eqb b 10 ≡ false → line_feed (b ∷ bs) ≡ suc (line_feed bs)
     fed e = simp e
 
-    other : (c : Bool) → (eqb b 13 && starts_with 10 bs) ≡ c → eqb b 10 ≡ false → (Bare bs → lineBytes bs ≡ take (lineFeed bs) bs) → lineBytes (b ∷ bs) ≡ take (lineFeed (b ∷ bs)) (b ∷ bs)
+    other : (c : Bool) → (eqb b 13 && starts_with 10 bs) ≡ c → eqb b 10 ≡ false → (Bare bs → line_bytes bs ≡ take (line_feed bs) bs) → line_bytes (b ∷ bs) ≡ take (line_feed (b ∷ bs)) (b ∷ bs)
     other true q e f =
         let w = and_both (eqb b 13) _ q in
         let z = started bs w.1 in
         absurd (h 0 (fed e ∙ ap suc z.0) (omega (arith, z.1)) (eqb-true _ _ w.0))
     other false q e f = simp (e, q) (ap (λ (r : List ℕ). b ∷ r) (f (λ m x y z. h (suc m) (fed e ∙ ap suc x) (omega arith) z)))
 
-    pick : (c : Bool) → eqb b 10 ≡ c → (Bare bs → lineBytes bs ≡ take (lineFeed bs) bs) → lineBytes (b ∷ bs) ≡ take (lineFeed (b ∷ bs)) (b ∷ bs)
+    pick : (c : Bool) → eqb b 10 ≡ c → (Bare bs → line_bytes bs ≡ take (line_feed bs) bs) → line_bytes (b ∷ bs) ≡ take (line_feed (b ∷ bs)) (b ∷ bs)
     pick true e f = simp e
     pick false e f = other (eqb b 13 && starts_with 10 bs) refl e f
 
-returned-bytes : (l : List ℕ) (m : ℕ) → lineFeed l ≡ suc m → suc m < length l → get_or l m 0 ≡ 13 → lineBytes l ≡ take m l
-unfolding lineBytes
+returned-bytes : (l : List ℕ) (m : ℕ) → line_feed l ≡ suc m → suc m < length l → get_or l m 0 ≡ 13 → line_bytes l ≡ take m l
+unfolding line_bytes
 returned-bytes [] m f h g = absurd (omega arith)
 returned-bytes (b ∷ []) m f h g = absurd (omega arith)
 returned-bytes (b ∷ c ∷ cs) m f h g = pick (eqb b 10) refl m f h g (returned-bytes (c ∷ cs))
   where
-    pick : (x : Bool) → eqb b 10 ≡ x → (m : ℕ) → lineFeed (b ∷ c ∷ cs) ≡ suc m → suc m < length (b ∷ c ∷ cs) → get_or (b ∷ c ∷ cs) m 0 ≡ 13
-        → ((k : ℕ) → lineFeed (c ∷ cs) ≡ suc k → suc k < length (c ∷ cs) → get_or (c ∷ cs) k 0 ≡ 13 → lineBytes (c ∷ cs) ≡ take k (c ∷ cs))
-        → lineBytes (b ∷ c ∷ cs) ≡ take m (b ∷ c ∷ cs)
+    pick : (x : Bool) → eqb b 10 ≡ x → (m : ℕ) → line_feed (b ∷ c ∷ cs) ≡ suc m → suc m < length (b ∷ c ∷ cs) → get_or (b ∷ c ∷ cs) m 0 ≡ 13
+        → ((k : ℕ) → line_feed (c ∷ cs) ≡ suc k → suc k < length (c ∷ cs) → get_or (c ∷ cs) k 0 ≡ 13 → line_bytes (c ∷ cs) ≡ take k (c ∷ cs))
+        → line_bytes (b ∷ c ∷ cs) ≡ take m (b ∷ c ∷ cs)
     pick true e m f h g more = absurd (let z = simp e at f in omega arith)
     pick false e zero f h g more =
-        let z : lineFeed (c ∷ cs) ≡ 0 = let w = simp e at f in omega arith in
+        let z : line_feed (c ∷ cs) ≡ 0 = let w = simp e at f in omega arith in
         let t : eqb c 10 ≡ true = starts c cs ∙ eq-eqb _ _ z in
         let u : eqb b 13 ≡ true = eq-eqb b 13 g in
         simp (e, u, t)
     pick false e (suc k) f h g more =
-        let z : lineFeed (c ∷ cs) ≡ suc k = let w = simp e at f in omega arith in
-        let n : eqb c 10 ≡ false = starts c cs ∙ ne_eqb (lineFeed (c ∷ cs)) 0 (λ q. omega arith) in
+        let z : line_feed (c ∷ cs) ≡ suc k = let w = simp e at f in omega arith in
+        let n : eqb c 10 ≡ false = starts c cs ∙ ne_eqb (line_feed (c ∷ cs)) 0 (λ q. omega arith) in
         let w : (eqb b 13 && eqb c 10) ≡ false = none (eqb b 13) (eqb c 10) n in
         simp (e, w) (ap (λ (r : List ℕ). b ∷ r) (more k z (omega arith) g))
       where
@@ -83,37 +83,37 @@ returned-bytes (b ∷ c ∷ cs) m f h g = pick (eqb b 10) refl m f h g (returned
         none false y e = refl
 
 -- what follows the LF is where the next line begins
-after-feed : (l : List ℕ) (o : ℕ) → lineFeed l < length l → lines_from l false o ≡ lines_from (drop (suc (lineFeed l)) l) true (o + suc (lineFeed l))
+after-feed : (l : List ℕ) (o : ℕ) → line_feed l < length l → lines_from l false o ≡ lines_from (drop (suc (line_feed l)) l) true (o + suc (line_feed l))
 unfolding lines_from
 after-feed [] o h = absurd (omega arith)
 after-feed (b ∷ bs) o h = pick (eqb b 10) refl (after-feed bs (suc o))
   where
-    pick : (c : Bool) → eqb b 10 ≡ c → (lineFeed bs < length bs → lines_from bs false (suc o) ≡ lines_from (drop (suc (lineFeed bs)) bs) true (suc o + suc (lineFeed bs)))
-        → lines_from (b ∷ bs) false o ≡ lines_from (drop (suc (lineFeed (b ∷ bs))) (b ∷ bs)) true (o + suc (lineFeed (b ∷ bs)))
+    pick : (c : Bool) → eqb b 10 ≡ c → (line_feed bs < length bs → lines_from bs false (suc o) ≡ lines_from (drop (suc (line_feed bs)) bs) true (suc o + suc (line_feed bs)))
+        → lines_from (b ∷ bs) false o ≡ lines_from (drop (suc (line_feed (b ∷ bs))) (b ∷ bs)) true (o + suc (line_feed (b ∷ bs)))
     pick true e f = simp (e, add-one)
     pick false e f =
-        let g : lineFeed (b ∷ bs) ≡ suc (lineFeed bs) = simp e in
-        let k : lineFeed bs < length bs = omega (arith, g) in
-        let z : suc o + suc (lineFeed bs) ≡ o + suc (suc (lineFeed bs)) = omega arith in
+        let g : line_feed (b ∷ bs) ≡ suc (line_feed bs) = simp e in
+        let k : line_feed bs < length bs = omega (arith, g) in
+        let z : suc o + suc (line_feed bs) ≡ o + suc (suc (line_feed bs)) = omega arith in
         simp e (f k ∙ rw z)
 
-no-feed : (l : List ℕ) (o : ℕ) → length l ≤ lineFeed l → lines_from l false o ≡ []
+no_feed : (l : List ℕ) (o : ℕ) → length l ≤ line_feed l → lines_from l false o ≡ []
 unfolding lines_from
-no-feed [] o h = refl
-no-feed (b ∷ bs) o h = pick (eqb b 10) refl (no-feed bs (suc o))
+no_feed [] o h = refl
+no_feed (b ∷ bs) o h = pick (eqb b 10) refl (no_feed bs (suc o))
   where
-    pick : (c : Bool) → eqb b 10 ≡ c → (length bs ≤ lineFeed bs → lines_from bs false (suc o) ≡ []) → lines_from (b ∷ bs) false o ≡ []
-    pick true e f = absurd (let z : lineFeed (b ∷ bs) ≡ 0 = simp e in omega (arith, z))
+    pick : (c : Bool) → eqb b 10 ≡ c → (length bs ≤ line_feed bs → lines_from bs false (suc o) ≡ []) → lines_from (b ∷ bs) false o ≡ []
+    pick true e f = absurd (let z : line_feed (b ∷ bs) ≡ 0 = simp e in omega (arith, z))
     pick false e f =
-        let g : lineFeed (b ∷ bs) ≡ suc (lineFeed bs) = simp e in
+        let g : line_feed (b ∷ bs) ≡ suc (line_feed bs) = simp e in
         simp e (f (omega (arith, g)))
 
-begun : (l : List ℕ) (o : ℕ) → 0 < length l → lines_from l true o ≡ record { offset = o; bytes = lineBytes l } ∷ lines_from l false o
+begun : (l : List ℕ) (o : ℕ) → 0 < length l → lines_from l true o ≡ record { offset = o; bytes = line_bytes l } ∷ lines_from l false o
 unfolding lines_from
 begun [] o h = absurd (omega arith)
 begun (b ∷ bs) o h = refl
 
-pub no_lines : (s : List ℕ) (at : ℕ) → length s ≤ at → linesAt s at ≡ []
+pub no_lines : (s : List ℕ) (at : ℕ) → length s ≤ at → lines_at s at ≡ []
 unfolding lines_from
 no_lines s at h = rw (drop_of_length-le s h)
 
@@ -121,32 +121,32 @@ module _ (s : List ℕ) (at : ℕ) (h : at < length s) where
   long : length (drop at s) ≡ length s - at
   long = length-drop at s
 
-  first : linesAt s at ≡ line_of s at ∷ lines_from (drop at s) false at
+  first : lines_at s at ≡ line_of s at ∷ lines_from (drop at s) false at
   first = begun (drop at s) at (omega (arith, long))
 
-  pub line-last : length s ≤ at + lineFeed (drop at s) → IsLine s at (record { end = length s; next = length s })
-  line-last k =
-      let n : length (drop at s) ≤ lineFeed (drop at s) = omega (arith, long) in
+  pub line_last : length s ≤ at + line_feed (drop at s) → IsLine s at (record { end = length s; next = length s })
+  line_last k =
+      let n : length (drop at s) ≤ line_feed (drop at s) = omega (arith, long) in
       record {
         behind = omega arith;
         cut = omega arith;
         ahead = omega arith;
         within = omega arith;
         bytes = take_all (length s - at) (drop at s) (omega (arith, long)) ∙ sym
-            (bare-bytes (drop at s) (λ m x y z. omega arith) ∙ take_all (lineFeed (drop at s)) (drop at s) n);
-        lines = first ∙ ap (λ (r : List rules.Line). line_of s at ∷ r) (no-feed (drop at s) at n ∙ sym (no_lines s (length s) (omega arith)));
+            (bare-bytes (drop at s) (λ m x y z. omega arith) ∙ take_all (line_feed (drop at s)) (drop at s) n);
+        lines = first ∙ ap (λ (r : List rules.Line). line_of s at ∷ r) (no_feed (drop at s) at n ∙ sym (no_lines s (length s) (omega arith)));
       }
 
-  module _ (f : ℕ) (e : f ≡ at + lineFeed (drop at s)) (k : f < length s) where
-    follows : linesAt s at ≡ line_of s at ∷ linesAt s (f + 1)
+  module _ (f : ℕ) (e : f ≡ at + line_feed (drop at s)) (k : f < length s) where
+    follows : lines_at s at ≡ line_of s at ∷ lines_at s (f + 1)
     follows =
-        let n : lineFeed (drop at s) < length (drop at s) = omega (arith, long) in
-        let g : at + suc (lineFeed (drop at s)) ≡ f + 1 = omega arith in
-        first ∙ ap (λ (r : List rules.Line). line_of s at ∷ r) (after-feed (drop at s) at n ∙ rw (drop-drop (suc (lineFeed (drop at s))) at s, g))
+        let n : line_feed (drop at s) < length (drop at s) = omega (arith, long) in
+        let g : at + suc (line_feed (drop at s)) ≡ f + 1 = omega arith in
+        first ∙ ap (λ (r : List rules.Line). line_of s at ∷ r) (after-feed (drop at s) at n ∙ rw (drop-drop (suc (line_feed (drop at s))) at s, g))
 
-    pub line-bare : (at < f → get_or s (f - 1) 0 ≡ 13 → ⊥) → IsLine s at (record { end = f; next = f + 1 })
-    line-bare n =
-        let x : f - at ≡ lineFeed (drop at s) = omega arith in
+    pub line_bare : (at < f → get_or s (f - 1) 0 ≡ 13 → ⊥) → IsLine s at (record { end = f; next = f + 1 })
+    line_bare n =
+        let x : f - at ≡ line_feed (drop at s) = omega arith in
         record {
           behind = omega arith;
           cut = omega arith;
@@ -156,14 +156,14 @@ module _ (s : List ℕ) (at : ℕ) (h : at < length s) where
           lines = follows;
         }
       where
-        bare : (m : ℕ) → lineFeed (drop at s) ≡ suc m → suc m < length (drop at s) → get_or (drop at s) m 0 ≡ 13 → ⊥
+        bare : (m : ℕ) → line_feed (drop at s) ≡ suc m → suc m < length (drop at s) → get_or (drop at s) m 0 ≡ 13 → ⊥
         bare m x y z =
             let w : at + m ≡ f - 1 = omega arith in
             n (omega arith) (ap (λ (j : ℕ). get_or s j 0) (sym w) ∙ sym (get_or-drop at s m 0) ∙ z)
 
-    pub line-returned : at < f → get_or s (f - 1) 0 ≡ 13 → IsLine s at (record { end = f - 1; next = f + 1 })
-    line-returned l c =
-        let x : lineFeed (drop at s) ≡ suc (f - 1 - at) = omega arith in
+    pub line_returned : at < f → get_or s (f - 1) 0 ≡ 13 → IsLine s at (record { end = f - 1; next = f + 1 })
+    line_returned l c =
+        let x : line_feed (drop at s) ≡ suc (f - 1 - at) = omega arith in
         let w : at + (f - 1 - at) ≡ f - 1 = omega arith in
         record {
           behind = omega arith;

@@ -11,53 +11,53 @@ use lib.Dec.{eqb}
 use borrow.Author.Tests.{lt-ltb, le-ltb, le-leb, lt-leb, eq-eqb, ne_eqb}
 use Rattle.lists.specs.Upto.{each}
 use Rattle.lists.specs.Tests.{every}
-use Rattle.lists.proofs.Tested.{every-true-below}
+use Rattle.lists.proofs.Tested.{every-true_below}
 use Rattle.lists.proofs.Steps.{every-next}
-use Rattle.ctfile.specs.Fields.{areBlank, columns, isText, sizeIn}
-use Rattle.ctfile.specs.Forms.{number_at, isEntry, listsEntries, isPropertyLine, isEndLine}
+use Rattle.ctfile.specs.Fields.{are_blank, columns, is_text, size_in}
+use Rattle.ctfile.specs.Forms.{number_at, is_entry, lists_entries, is_property_line, is_end_line}
 
 -- ---- Blanks to the end of a line
 
 module _ (l : List ℕ) (i : ℕ) where
-  pub blank-out : length l ≤ i → areBlank (drop i l) ≡ true
+  pub blank-out : length l ≤ i → are_blank (drop i l) ≡ true
   unfolding every
   blank-out h = rw (drop_of_length-le l h)
 
-  pub blank-not : i < length l → (get_or l i 0 ≡ 32 → ⊥) → areBlank (drop i l) ≡ false
+  pub blank-not : i < length l → (get_or l i 0 ≡ 32 → ⊥) → are_blank (drop i l) ≡ false
   unfolding every
   blank-not h n = rw (drop-cons l i 0 h, ne_eqb _ _ n)
 
-  pub blank-on : i < length l → get_or l i 0 ≡ 32 → areBlank (drop i l) ≡ areBlank (drop (i + 1) l)
+  pub blank-on : i < length l → get_or l i 0 ≡ 32 → are_blank (drop i l) ≡ are_blank (drop (i + 1) l)
   unfolding every
   blank-on h e = rw (drop-cons l i 0 h, eq-eqb _ _ e, add-one i)
 
 -- ---- Entries
 
 module _ (atoms : ℕ) (l : List ℕ) (e : ℕ) where
-  pub entry-before : (get_or l (9 + 8 * e) 32 ≡ 32 → ⊥) → false ≡ isEntry atoms l e
-  unfolding isEntry
+  pub entry-before : (get_or l (9 + 8 * e) 32 ≡ 32 → ⊥) → false ≡ is_entry atoms l e
+  unfolding is_entry
   entry-before n = simp (ne_eqb _ _ n)
 
   module _ (p : get_or l (9 + 8 * e) 32 ≡ 32) where
-    pub entry-between : (get_or l (9 + 8 * e + 4) 32 ≡ 32 → ⊥) → false ≡ isEntry atoms l e
-    unfolding isEntry
+    pub entry-between : (get_or l (9 + 8 * e + 4) 32 ≡ 32 → ⊥) → false ≡ is_entry atoms l e
+    unfolding is_entry
     entry-between n = simp (eq-eqb _ _ p, ne_eqb _ _ n)
 
     module _ (q : get_or l (9 + 8 * e + 4) 32 ≡ 32) where
-      pub entry-none : number_at (9 + 8 * e + 1) l ≡ 0 → false ≡ isEntry atoms l e
-      unfolding isEntry
+      pub entry-none : number_at (9 + 8 * e + 1) l ≡ 0 → false ≡ is_entry atoms l e
+      unfolding is_entry
       entry-none z = let k : number_at (9 + 8 * e + 1) l ≤ 0 = omega arith in simp (eq-eqb _ _ p, eq-eqb _ _ q, le-ltb _ _ k)
 
       module _ (n : number_at (9 + 8 * e + 1) l ≡ 0 → ⊥) where
         some : 0 < number_at (9 + 8 * e + 1) l
         some = omega arith
 
-        pub entry-over : atoms < number_at (9 + 8 * e + 1) l → false ≡ isEntry atoms l e
-        unfolding isEntry
+        pub entry-over : atoms < number_at (9 + 8 * e + 1) l → false ≡ is_entry atoms l e
+        unfolding is_entry
         entry-over h = simp (eq-eqb _ _ p, eq-eqb _ _ q, lt-ltb _ _ some, lt-leb _ _ h)
 
-        pub entry_value : number_at (9 + 8 * e + 1) l ≤ atoms → eqb (sizeIn (columns (9 + 8 * e + 5) 3 l)) 0 ≡ isEntry atoms l e
-        unfolding isEntry
+        pub entry_value : number_at (9 + 8 * e + 1) l ≤ atoms → eqb (size_in (columns (9 + 8 * e + 5) 3 l)) 0 ≡ is_entry atoms l e
+        unfolding is_entry
         entry_value h = simp (eq-eqb _ _ p, eq-eqb _ _ q, lt-ltb _ _ some, le-leb _ _ h)
 
 -- ---- Tests of all numbers below a bound, one by one
@@ -70,74 +70,74 @@ module _ (p : ℕ → Bool) where
   every-not n a h e = pick (every (each n p)) refl
     where
       pick : (b : Bool) → every (each n p) ≡ b → b ≡ false
-      pick true q = let z = every-true-below n p q a h in cc
+      pick true q = let z = every-true_below n p q a h in cc
       pick false q = refl
 
 -- ---- A property line
 
 module _ (l : List ℕ) where
-  pub zero-charge : isText "M  CHG" (take 6 l) ≡ true → true ≡ listsEntries l
-  unfolding listsEntries
+  pub zero-charge : is_text "M  CHG" (take 6 l) ≡ true → true ≡ lists_entries l
+  unfolding lists_entries
   zero-charge e = simp e
 
-  pub zero-radical : isText "M  CHG" (take 6 l) ≡ false → isText "M  RAD" (take 6 l) ≡ true → true ≡ listsEntries l
-  unfolding listsEntries
+  pub zero-radical : is_text "M  CHG" (take 6 l) ≡ false → is_text "M  RAD" (take 6 l) ≡ true → true ≡ lists_entries l
+  unfolding lists_entries
   zero-radical e f = simp (e, f)
 
-  pub zero-isotope : isText "M  CHG" (take 6 l) ≡ false → isText "M  RAD" (take 6 l) ≡ false → isText "M  ISO" (take 6 l) ≡ listsEntries l
-  unfolding listsEntries
+  pub zero-isotope : is_text "M  CHG" (take 6 l) ≡ false → is_text "M  RAD" (take 6 l) ≡ false → is_text "M  ISO" (take 6 l) ≡ lists_entries l
+  unfolding lists_entries
   zero-isotope e f = simp (e, f)
 
-pub property-other : (atoms : ℕ) (l : List ℕ) → listsEntries l ≡ false → false ≡ isPropertyLine atoms l
-unfolding isPropertyLine
-property-other atoms l z = simp z
+pub property_other : (atoms : ℕ) (l : List ℕ) → lists_entries l ≡ false → false ≡ is_property_line atoms l
+unfolding is_property_line
+property_other atoms l z = simp z
 
 module _ (atoms : ℕ) (l : List ℕ) (n : ℕ) (e : n ≡ number_at 6 l) where
-  module _ (z : listsEntries l ≡ true) where
-    pub property-none : n ≡ 0 → false ≡ isPropertyLine atoms l
-    unfolding isPropertyLine
-    property-none q = let k : number_at 6 l ≤ 0 = omega arith in simp (z, le-ltb _ _ k)
+  module _ (z : lists_entries l ≡ true) where
+    pub property_none : n ≡ 0 → false ≡ is_property_line atoms l
+    unfolding is_property_line
+    property_none q = let k : number_at 6 l ≤ 0 = omega arith in simp (z, le-ltb _ _ k)
 
     module _ (m : n ≡ 0 → ⊥) where
       any : 0 < number_at 6 l
       any = omega arith
 
-      pub property-many : 8 < n → false ≡ isPropertyLine atoms l
-      unfolding isPropertyLine
-      property-many h = let k : 8 < number_at 6 l = omega arith in simp (z, lt-ltb _ _ any, lt-leb _ _ k)
+      pub property_many : 8 < n → false ≡ is_property_line atoms l
+      unfolding is_property_line
+      property_many h = let k : 8 < number_at 6 l = omega arith in simp (z, lt-ltb _ _ any, lt-leb _ _ k)
 
       module _ (few : n ≤ 8) where
         eight : number_at 6 l ≤ 8
         eight = omega arith
 
-        pub property-short : length l < 9 + 8 * n → false ≡ isPropertyLine atoms l
-        unfolding isPropertyLine
-        property-short h = let k : length l < 9 + 8 * number_at 6 l = omega (arith, e) in simp (z, lt-ltb _ _ any, le-leb _ _ eight, lt-leb _ _ k)
+        pub property_short : length l < 9 + 8 * n → false ≡ is_property_line atoms l
+        unfolding is_property_line
+        property_short h = let k : length l < 9 + 8 * number_at 6 l = omega (arith, e) in simp (z, lt-ltb _ _ any, le-leb _ _ eight, lt-leb _ _ k)
 
         module _ (long : 9 + 8 * n ≤ length l) where
           full : 9 + 8 * number_at 6 l ≤ length l
           full = omega (arith, e)
 
-          entered : every (each n (isEntry atoms l)) ≡ every (each (number_at 6 l) (isEntry atoms l))
-          entered = ap (λ (k : ℕ). every (each k (isEntry atoms l))) e
+          entered : every (each n (is_entry atoms l)) ≡ every (each (number_at 6 l) (is_entry atoms l))
+          entered = ap (λ (k : ℕ). every (each k (is_entry atoms l))) e
 
-          pub property-entry : every (each n (isEntry atoms l)) ≡ false → false ≡ isPropertyLine atoms l
-          unfolding isPropertyLine
-          property-entry f = simp (z, lt-ltb _ _ any, le-leb _ _ eight, le-leb _ _ full, sym entered ∙ f)
+          pub property_entry : every (each n (is_entry atoms l)) ≡ false → false ≡ is_property_line atoms l
+          unfolding is_property_line
+          property_entry f = simp (z, lt-ltb _ _ any, le-leb _ _ eight, le-leb _ _ full, sym entered ∙ f)
 
-          pub property-rest : every (each n (isEntry atoms l)) ≡ true → areBlank (drop (9 + 8 * n) l) ≡ isPropertyLine atoms l
-          unfolding isPropertyLine
-          property-rest t =
-              ap (λ (k : ℕ). areBlank (drop (9 + 8 * k) l)) e
+          pub property_rest : every (each n (is_entry atoms l)) ≡ true → are_blank (drop (9 + 8 * n) l) ≡ is_property_line atoms l
+          unfolding is_property_line
+          property_rest t =
+              ap (λ (k : ℕ). are_blank (drop (9 + 8 * k) l)) e
               ∙ simp (z, lt-ltb _ _ any, le-leb _ _ eight, le-leb _ _ full, sym entered ∙ t)
 
 -- ---- The end line
 
 module _ (l : List ℕ) where
-  pub end-other : isText "M  END" (take 6 l) ≡ false → false ≡ isEndLine l
-  unfolding isEndLine
+  pub end-other : is_text "M  END" (take 6 l) ≡ false → false ≡ is_end_line l
+  unfolding is_end_line
   end-other e = simp e
 
-  pub end_rest : isText "M  END" (take 6 l) ≡ true → areBlank (drop 6 l) ≡ isEndLine l
-  unfolding isEndLine
+  pub end_rest : is_text "M  END" (take 6 l) ≡ true → are_blank (drop 6 l) ≡ is_end_line l
+  unfolding is_end_line
   end_rest e = simp e

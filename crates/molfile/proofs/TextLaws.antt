@@ -11,7 +11,7 @@ use lib.Seq.{drop-cons}
 use lib.Dec.{eqb, compare_is_eq}
 use borrow.Author.Tests.{eq-eqb, ne_eqb}
 use Rattle.lists.specs.Order.{or_else, lex}
-use Rattle.lists.proofs.Upto.{getD-each, length-each, each-eq, each_take}
+use Rattle.lists.proofs.Upto.{get_or-each, length-each, each-eq, each_take}
 use Rattle.ctfile.specs.Fields.{columns}
 
 -- whether two lists of bytes are the same
@@ -23,16 +23,16 @@ both Ordering.lt p = refl
 both Ordering.eq p = refl
 both Ordering.gt p = refl
 
-same-cons : (x y : ℕ) (xs ys : List ℕ) → same (x ∷ xs) (y ∷ ys) ≡ (eqb x y && same xs ys)
+same_cons : (x y : ℕ) (xs ys : List ℕ) → same (x ∷ xs) (y ∷ ys) ≡ (eqb x y && same xs ys)
 unfolding lex
-same-cons x y xs ys = both (compare x y) (lex compare xs ys)
+same_cons x y xs ys = both (compare x y) (lex compare xs ys)
 
 pub same_length : (xs ys : List ℕ) → (length xs ≡ length ys → ⊥) → same xs ys ≡ false
 unfolding lex
 same_length [] [] n = absurd (n refl)
 same_length [] (y ∷ ys) n = refl
 same_length (x ∷ xs) [] n = refl
-same_length (x ∷ xs) (y ∷ ys) n = same-cons x y xs ys ∙ pick (eqb x y) (same_length xs ys (λ e. n (ap suc e)))
+same_length (x ∷ xs) (y ∷ ys) n = same_cons x y xs ys ∙ pick (eqb x y) (same_length xs ys (λ e. n (ap suc e)))
   where
     pick : (b : Bool) → same xs ys ≡ false → (b && same xs ys) ≡ false
     pick true e = e
@@ -40,7 +40,7 @@ same_length (x ∷ xs) (y ∷ ys) n = same-cons x y xs ys ∙ pick (eqb x y) (sa
 
 module _ (xs ys : List ℕ) (i : ℕ) (h : i < length xs) (k : i < length ys) where
   opened : same (drop i xs) (drop i ys) ≡ (eqb (get_or xs i 0) (get_or ys i 0) && same (drop (i + 1) xs) (drop (i + 1) ys))
-  opened = rw (drop-cons xs i 0 h, drop-cons ys i 0 k, add-one i) (same-cons (get_or xs i 0) (get_or ys i 0) (drop (suc i) xs) (drop (suc i) ys))
+  opened = rw (drop-cons xs i 0 h, drop-cons ys i 0 k, add-one i) (same_cons (get_or xs i 0) (get_or ys i 0) (drop (suc i) xs) (drop (suc i) ys))
 
   pub differs : (get_or xs i 0 ≡ get_or ys i 0 → ⊥) → same (drop i xs) (drop i ys) ≡ false
   differs n = opened ∙ rw (ne_eqb _ _ n)
@@ -59,7 +59,7 @@ module _ (k n : ℕ) (l : List ℕ) where
 
   pub columns-at : (i : ℕ) → i < n → get_or (columns k n l) i 0 ≡ get_or l (k + i) 32
   unfolding columns
-  columns-at i h = getD-each n (λ i. get_or l (k + i) 32) i 0 h
+  columns-at i h = get_or-each n (λ i. get_or l (k + i) 32) i 0 h
 
 -- of a line that has them all, the first columns are its first bytes
 pub columns-first : (n : ℕ) (l : List ℕ) → n ≤ length l → columns 0 n l ≡ take n l

@@ -1,7 +1,7 @@
 -- A file read into the arrays of its drawing.
 use Rattle.std.specs.Prelude.{ℕ, ◌≤◌, ◌≡◌, List, true, false, length}
-use Rattle.ctfile.specs.Filed.{sound, broken, verdict, drawingOf}
-use Rattle.drawing.specs.View.{drawingIn}
+use Rattle.ctfile.specs.Filed.{sound, broken, verdict, drawing_of}
+use Rattle.drawing.specs.View.{drawing_in}
 use Rattle.molfile.specs.declared.outcome.Counted.{Counted}
 use Rattle.molfile.specs.Passing.{Longs}
 
@@ -10,8 +10,8 @@ use Rattle.molfile.specs.Passing.{Longs}
 pub record IsFiled (s kinds₀ one₀ two₀ codes₀ kinds one two codes : List ℕ) (r : Counted) : Type 0 where
   pub stopped : r.broken ≡ true → verdict s ≡ broken r.place
   pub passed : r.broken ≡ false → verdict s ≡ sound
-  pub drawing : length kinds₀ ≡ 999 → Longs one₀ two₀ codes₀ → r.broken ≡ false → drawingIn kinds one two codes r.atoms r.bonds ≡ drawingOf s
-  pub kindsKept : length kinds ≡ length kinds₀
-  pub bondsKept : (length one ≡ length one₀) × (length two ≡ length two₀) × (length codes ≡ length codes₀)
+  pub drawing : length kinds₀ ≡ 999 → Longs one₀ two₀ codes₀ → r.broken ≡ false → drawing_in kinds one two codes r.atoms r.bonds ≡ drawing_of s
+  pub kinds_kept : length kinds ≡ length kinds₀
+  pub bonds_kept : (length one ≡ length one₀) × (length two ≡ length two₀) × (length codes ≡ length codes₀)
   pub atoms : r.atoms ≤ 999
   pub bonds : r.bonds ≤ 999

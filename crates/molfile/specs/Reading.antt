@@ -2,28 +2,28 @@
 use Rattle.std.specs.Prelude.{cond, List, ◌≡◌, ℕ, ltb, length}
 use Rattle.molecule.specs.Renumbering.{Renumbered}
 use Rattle.table.specs.View.{view_of, TidyTable}
-use Rattle.ctfile.specs.Filed.{Verdict, sound, broken, verdict, drawingOf}
-use Rattle.ctfile.specs.Drawings.{folded, drawingFault}
-use Rattle.ctfile.specs.Molfiles.{mostFile}
+use Rattle.ctfile.specs.Filed.{Verdict, sound, broken, verdict, drawing_of}
+use Rattle.ctfile.specs.Drawings.{folded, drawing_fault}
+use Rattle.ctfile.specs.Molfiles.{most_file}
 use Rattle.molfile.specs.declared.MolfileRead.{MolfileRead}
 
-abbrev pub refusalBy : Verdict → ℕ → ℕ
-refusalBy sound n = n
-refusalBy (broken p) n = 11
+abbrev pub refusal_by : Verdict → ℕ → ℕ
+refusal_by sound n = n
+refusal_by (broken p) n = 11
 
-abbrev pub placeBy : Verdict → ℕ
-placeBy sound = 0
-placeBy (broken p) = p
+abbrev pub place_by : Verdict → ℕ
+place_by sound = 0
+place_by (broken p) = p
 
 -- "4 before all else", then 11, then the order of the drawing's faults
-unfoldable pub fileFault : List ℕ → ℕ
-fileFault s = cond (ltb mostFile (length s)) 4 (refusalBy (verdict s) (drawingFault (drawingOf s)))
+unfoldable pub file_fault : List ℕ → ℕ
+file_fault s = cond (ltb most_file (length s)) 4 (refusal_by (verdict s) (drawing_fault (drawing_of s)))
 
-unfoldable pub faultPlace : List ℕ → ℕ
-faultPlace s = cond (ltb mostFile (length s)) 0 (placeBy (verdict s))
+unfoldable pub fault_place : List ℕ → ℕ
+fault_place s = cond (ltb most_file (length s)) 0 (place_by (verdict s))
 
 pub record IsRead (s : List ℕ) (r : MolfileRead) : Type 0 where
-  pub refusal : r.refusal ≡ fileFault s
-  pub place : r.place ≡ faultPlace s
+  pub refusal : r.refusal ≡ file_fault s
+  pub place : r.place ≡ fault_place s
   pub tidy : r.refusal ≡ 0 → TidyTable r.table
-  pub view : r.refusal ≡ 0 → Renumbered (λ a. a) (folded (drawingOf s)) (view_of r.table)
+  pub view : r.refusal ≡ 0 → Renumbered (λ a. a) (folded (drawing_of s)) (view_of r.table)

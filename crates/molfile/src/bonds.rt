@@ -1,13 +1,13 @@
 // A bond line.
 ghost use Rattle.std.specs.Prelude.{◌≡◌, ◌&&◌, leb, ltb, ◌<◌, set};
-ghost use Rattle.ctfile.specs.Forms.{isBondLine, fromOne, bondIn};
+ghost use Rattle.ctfile.specs.Forms.{is_bond_line, from_one, bond_in};
 
 use crate::field::{NO_NUMBER, number_at};
 use drawing::Limits;
 
 // A number that counts from 1, counted from 0.
 fn from_one(a: u16) -> u16
-    ensures { result ≡ fromOne a }
+    ensures { result ≡ from_one a }
 {
     if a == 0 {
         return NO_NUMBER;
@@ -40,10 +40,10 @@ pub fn put_bond(
     codes: &mut [u16; Limits::BONDS],
 ) -> bool
     requires { k < 999 }
-    ensures { (result ≡ isBondLine line.now)
-        × (one.new ≡ set one.old k (bondIn line.now).one)
-        × (two.new ≡ set two.old k (bondIn line.now).two)
-        × (codes.new ≡ set codes.old k (bondIn line.now).code) }
+    ensures { (result ≡ is_bond_line line.now)
+        × (one.new ≡ set one.old k (bond_in line.now).one)
+        × (two.new ≡ set two.old k (bond_in line.now).two)
+        × (codes.new ≡ set codes.old k (bond_in line.now).code) }
 {
     let a = number_at(line, 0);
     let b = number_at(line, 3);

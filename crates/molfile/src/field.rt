@@ -1,7 +1,7 @@
 // The columns of a line, and what a field of them holds.
 ghost use Rattle.std.specs.Prelude.{◌≡◌, [], ◌∷◌, true, ◌&&◌, ◌+◌, ◌-◌, ◌*◌, ◌≤◌, ◌<◌, get_or};
-ghost use Rattle.sling.specs.Scanned.{isDigit};
-ghost use Rattle.ctfile.specs.Fields.{areBlank, columns, decimal, number_in, isSign, sizeIn};
+ghost use Rattle.sling.specs.Scanned.{is_digit};
+ghost use Rattle.ctfile.specs.Fields.{are_blank, columns, decimal, number_in, is_sign, size_in};
 ghost use Rattle.ctfile.specs.Forms.{number_at};
 ghost use Rattle.molfile.specs.Numbers.{IsNumber};
 
@@ -27,7 +27,7 @@ pub fn column(line: &[u8], k: usize) -> u8
 }
 
 pub fn are_blank(a: u8, b: u8, c: u8) -> bool
-    ensures { result ≡ areBlank (a ∷ b ∷ c ∷ []) }
+    ensures { result ≡ are_blank (a ∷ b ∷ c ∷ []) }
 {
     if a != BLANK {
         return false;
@@ -39,7 +39,7 @@ pub fn are_blank(a: u8, b: u8, c: u8) -> bool
 }
 
 fn is_digit(b: u8) -> bool
-    ensures { result ≡ isDigit b }
+    ensures { result ≡ is_digit b }
 {
     if b < 48 {
         return false;
@@ -49,7 +49,7 @@ fn is_digit(b: u8) -> bool
 
 // A digit behind digits that come to v.
 fn digit_more(v: u16, b: u8) -> u16
-    requires { (v ≤ 99) × (isDigit b ≡ true) }
+    requires { (v ≤ 99) × (is_digit b ≡ true) }
     ensures { result ≡ 10 * v + (b - 48) }
 {
     10 * v + (b - 48) as u16
@@ -104,7 +104,7 @@ fn number_of(a: u8, b: u8, c: u8) -> u16
 
 // Whether a sign stands before a digit.
 fn is_signed(a: u8, b: u8) -> bool
-    ensures { result ≡ (isSign a && isDigit b) }
+    ensures { result ≡ (is_sign a && is_digit b) }
 {
     if a == 43 {
         return is_digit(b);
@@ -117,7 +117,7 @@ fn is_signed(a: u8, b: u8) -> bool
 
 // How far a number in three columns, which may have a sign, is from 0.
 fn size_of(a: u8, b: u8, c: u8) -> u16
-    ensures { IsNumber (sizeIn (a ∷ b ∷ c ∷ [])) result }
+    ensures { IsNumber (size_in (a ∷ b ∷ c ∷ [])) result }
 {
     if is_signed(a, b) {
         return last_two_of(0, b, c);
@@ -142,7 +142,7 @@ pub fn number_at(line: &[u8], k: usize) -> u16
 // The size of a number in three columns behind the first k.
 pub fn size_at(line: &[u8], k: usize) -> u16
     requires { k < 1000 }
-    ensures { IsNumber (sizeIn (columns k 3 line.now)) result }
+    ensures { IsNumber (size_in (columns k 3 line.now)) result }
 {
     size_of(column(line, k), column(line, k + 1), column(line, k + 2))
 }
@@ -150,7 +150,7 @@ pub fn size_at(line: &[u8], k: usize) -> u16
 // The same in two columns: a blank before them changes nothing.
 pub fn small_size_at(line: &[u8], k: usize) -> u16
     requires { k < 1000 }
-    ensures { IsNumber (sizeIn (columns k 2 line.now)) result }
+    ensures { IsNumber (size_in (columns k 2 line.now)) result }
 {
     size_of(BLANK, column(line, k), column(line, k + 1))
 }

@@ -3,9 +3,9 @@ ghost use Rattle.std.specs.Prelude.{◌≡◌, [], ◌∷◌, length};
 ghost use Prim.Native.Nat.{◌<◌, compare};
 ghost use Rattle.std.proofs.Math.Dec.{compare_is_eq};
 ghost use Rattle.lists.specs.Order.{lex};
-ghost use Rattle.molecule.specs.Kinds.{kindOfSymbol};
+ghost use Rattle.molecule.specs.Kinds.{kind_of_symbol};
 ghost use Rattle.ctfile.specs.Fields.{columns, unled, untrailed};
-ghost use Rattle.ctfile.specs.Forms.{isVersion, isCountsLine, kindIn, isAtomLine};
+ghost use Rattle.ctfile.specs.Forms.{is_version, is_counts_line, kind_in, is_atom_line};
 
 use crate::field::{BLANK, NO_NUMBER, are_blank, column, number_at, small_size_at};
 use kinds::{NO_KIND, kind_of_capital, kind_of_letters};
@@ -26,7 +26,7 @@ pub fn holds(line: &[u8], k: usize, text: &[u8; 6]) -> bool
 }
 
 fn is_version(line: &[u8]) -> bool
-    ensures { result ≡ isVersion line.now }
+    ensures { result ≡ is_version line.now }
 {
     if holds(line, 33, b" V2000") {
         return true;
@@ -35,7 +35,7 @@ fn is_version(line: &[u8]) -> bool
 }
 
 pub fn is_counts_line(line: &[u8]) -> bool
-    ensures { result ≡ isCountsLine line.now }
+    ensures { result ≡ is_counts_line line.now }
 {
     if !is_version(line) {
         return false;
@@ -48,7 +48,7 @@ pub fn is_counts_line(line: &[u8]) -> bool
 
 // The kind of a symbol in two columns.
 fn kind_of_two(b: u8, c: u8) -> u8
-    ensures { result ≡ kindOfSymbol (untrailed (unled (b ∷ c ∷ []))) }
+    ensures { result ≡ kind_of_symbol (untrailed (unled (b ∷ c ∷ []))) }
 {
     if c == BLANK {
         return kind_of_capital(b);
@@ -61,7 +61,7 @@ fn kind_of_two(b: u8, c: u8) -> u8
 
 // The kind of an atom line's symbol. No symbol has three letters.
 pub fn kind_in(line: &[u8]) -> u8
-    ensures { result ≡ kindIn line.now }
+    ensures { result ≡ kind_in line.now }
 {
     let a = column(line, 31);
     let b = column(line, 32);
@@ -76,7 +76,7 @@ pub fn kind_in(line: &[u8]) -> u8
 }
 
 pub fn is_atom_line(line: &[u8]) -> bool
-    ensures { result ≡ isAtomLine line.now }
+    ensures { result ≡ is_atom_line line.now }
 {
     if are_blank(column(line, 31), column(line, 32), column(line, 33)) {
         return false;

@@ -1,4 +1,6 @@
 // Reading a molfile: its lines, one by one, into the arrays of its drawing, and that into a table.
+#![tactic(auto)]
+
 ghost use Rattle.std.specs.Prelude.{◌≡◌};
 ghost use Rattle.molfile.specs.Filing.{IsFiled};
 ghost use Rattle.molfile.specs.Reading.{IsRead};

@@ -1,6 +1,6 @@
 // The lines of a file.
 ghost use Rattle.std.specs.Prelude.{◌≡◌, ◌+◌, ◌≤◌, ◌<◌, length, drop};
-ghost use Rattle.molfile.specs.Cutting.{lineFeed, IsLine};
+ghost use Rattle.molfile.specs.Cutting.{line_feed, IsLine};
 
 // The offset behind a line's last byte, and that of the next line.
 #[derive(Drop)]
@@ -16,7 +16,7 @@ const CR: u8 = 13;
 // The offset of the first LF from an offset on, or the file's length.
 fn line_feed(file: &[u8], at: usize) -> usize
     requires { at ≤ length file.now }
-    ensures { result ≡ at + lineFeed (drop at file.now) }
+    ensures { result ≡ at + line_feed (drop at file.now) }
 {
     let n = file.len();
     let mut i = at;

@@ -5,8 +5,8 @@ ghost use Rattle.std.proofs.Math.Dec.{compare_is_eq};
 ghost use Rattle.lists.specs.Upto.{each};
 ghost use Rattle.lists.specs.Tests.{every};
 ghost use Rattle.lists.specs.Order.{lex};
-ghost use Rattle.ctfile.specs.Fields.{areBlank};
-ghost use Rattle.ctfile.specs.Forms.{isEntry, listsEntries, isPropertyLine, isEndLine};
+ghost use Rattle.ctfile.specs.Fields.{are_blank};
+ghost use Rattle.ctfile.specs.Forms.{is_entry, lists_entries, is_property_line, is_end_line};
 
 use crate::field::{BLANK, column, number_at, size_at, wide};
 use crate::forms::holds;
@@ -24,7 +24,7 @@ fn begins(line: &[u8], text: &[u8; 6]) -> bool
 
 // Whether only blanks stand behind the first k columns.
 fn blank_behind(line: &[u8], k: usize) -> bool
-    ensures { result ≡ areBlank (drop k line.now) }
+    ensures { result ≡ are_blank (drop k line.now) }
 {
     let n = line.len();
     let mut i = k;
@@ -38,7 +38,7 @@ fn blank_behind(line: &[u8], k: usize) -> bool
 }
 
 fn lists_entries(line: &[u8]) -> bool
-    ensures { result ≡ listsEntries line.now }
+    ensures { result ≡ lists_entries line.now }
 {
     if begins(line, b"M  CHG") {
         return true;
@@ -51,7 +51,7 @@ fn lists_entries(line: &[u8]) -> bool
 
 fn is_entry(line: &[u8], atoms: usize, e: usize) -> bool
     requires { e < 8 }
-    ensures { result ≡ isEntry atoms line.now e }
+    ensures { result ≡ is_entry atoms line.now e }
 {
     let k = 9 + 8 * e;
     if column(line, k) != BLANK {
@@ -72,7 +72,7 @@ fn is_entry(line: &[u8], atoms: usize, e: usize) -> bool
 
 fn are_entries(line: &[u8], atoms: usize, entries: usize) -> bool
     requires { entries ≤ 8 }
-    ensures { result ≡ every (each entries (isEntry atoms line.now)) }
+    ensures { result ≡ every (each entries (is_entry atoms line.now)) }
 {
     let mut e: usize = 0;
     while e < entries {
@@ -85,7 +85,7 @@ fn are_entries(line: &[u8], atoms: usize, entries: usize) -> bool
 }
 
 pub fn is_property_line(line: &[u8], atoms: usize) -> bool
-    ensures { result ≡ isPropertyLine atoms line.now }
+    ensures { result ≡ is_property_line atoms line.now }
 {
     if !lists_entries(line) {
         return false;
@@ -107,7 +107,7 @@ pub fn is_property_line(line: &[u8], atoms: usize) -> bool
 }
 
 pub fn is_end_line(line: &[u8]) -> bool
-    ensures { result ≡ isEndLine line.now }
+    ensures { result ≡ is_end_line line.now }
 {
     if !begins(line, b"M  END") {
         return false;

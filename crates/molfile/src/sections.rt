@@ -1,7 +1,7 @@
 // The sections of a file, each from the offset of its first line on. A line that is missing is refused at the file's length.
 ghost use Rattle.std.specs.Prelude.{◌≤◌, replicate};
-ghost use Rattle.ctfile.specs.Forms.{isAtomLine, isBondLine};
-ghost use Rattle.molfile.specs.Passing.{anyLine, Passes, IsCounted, AtomsIn, BondsIn, Ends};
+ghost use Rattle.ctfile.specs.Forms.{is_atom_line, is_bond_line};
+ghost use Rattle.molfile.specs.Passing.{any_line, Passes, IsCounted, AtomsIn, BondsIn, Ends};
 
 use crate::bonds::put_bond;
 use crate::field::{number_at, wide};
@@ -14,7 +14,7 @@ use drawing::Limits;
 const HEADER: usize = 3;
 
 pub fn header(file: &[u8]) -> Passage
-    ensures { Passes (replicate 3 anyLine) file.now 0 result }
+    ensures { Passes (replicate 3 any_line) file.now 0 result }
 {
     let n = file.len();
     let mut at: usize = 0;
@@ -59,7 +59,7 @@ pub fn counts(file: &[u8], at: usize) -> Counted
 
 pub fn atoms(file: &[u8], from: usize, atoms: usize, kinds: &mut [u8; Limits::ATOMS]) -> Passage
     requires { atoms ≤ 999 }
-    ensures { Passes (replicate atoms isAtomLine) file.now from result
+    ensures { Passes (replicate atoms is_atom_line) file.now from result
         × AtomsIn kinds.old kinds.new file.now from atoms result }
 {
     let n = file.len();
@@ -100,7 +100,7 @@ pub fn bonds(
     codes: &mut [u16; Limits::BONDS],
 ) -> Passage
     requires { bonds ≤ 999 }
-    ensures { Passes (replicate bonds isBondLine) file.now from result
+    ensures { Passes (replicate bonds is_bond_line) file.now from result
         × BondsIn one.old two.old codes.old one.new two.new codes.new file.now from bonds result }
 {
     let n = file.len();

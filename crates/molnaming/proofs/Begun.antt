@@ -18,13 +18,13 @@ pub begun_all : (s : List ℕ) → begun s true 0 ≡ length (lines_of s)
 unfolding lines_of
 begun_all s = refl
 
-pub begun-none : (s : List ℕ) (b : Bool) (i : ℕ) → length s ≤ i → begun s b i ≡ 0
+pub begun_none : (s : List ℕ) (b : Bool) (i : ℕ) → length s ≤ i → begun s b i ≡ 0
 unfolding lines_from
-begun-none s b i h = ap (λ (l : List ℕ). length (lines_from l b i)) (drop_of_length-le s h)
+begun_none s b i h = ap (λ (l : List ℕ). length (lines_from l b i)) (drop_of_length-le s h)
 
-pub begun-next : (s : List ℕ) (b : Bool) (i : ℕ) → i < length s → begun s b i ≡ cond b 1 0 + begun s (eqb (get_or s i 0) 10) (i + 1)
+pub begun_next : (s : List ℕ) (b : Bool) (i : ℕ) → i < length s → begun s b i ≡ cond b 1 0 + begun s (eqb (get_or s i 0) 10) (i + 1)
 unfolding lines_from
-begun-next s b i h = ap (λ (l : List ℕ). length (lines_from l b i)) (drop-cons s i 0 h) ∙ go b
+begun_next s b i h = ap (λ (l : List ℕ). length (lines_from l b i)) (drop-cons s i 0 h) ∙ go b
   where
     go : (t : Bool) → length (lines_from (List.◌∷◌ (get_or s i 0) (drop (suc i) s)) t i) ≡ cond t 1 0 + begun s (eqb (get_or s i 0) 10) (i + 1)
     go true = rw (add-one i) (omega arith)

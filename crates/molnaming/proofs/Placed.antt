@@ -9,41 +9,41 @@ use lib.ListN.{length, take, drop, length-append, take-append-drop}
 use borrow.Author.Tests.{eq-eqb, ne_eqb}
 use Rattle.lists.specs.Quoted as quoted
 use Rattle.ctfile.specs.Lines.{lines_of}
-use Rattle.lines.specs.Numbers.{decimalOf}
+use Rattle.lines.specs.Numbers.{decimal_of}
 use Rattle.lines.specs.Written.{Puts}
 use Rattle.lines.proofs.Shown.{digits-most}
-use Rattle.molnaming.specs.Lines.{lineNumber, place_of}
+use Rattle.molnaming.specs.Lines.{line_number, place_of}
 
 abbrev pub at-line : (place line : ℕ) → List ℕ
-at-line place line = quoted.bytes_of " at byte " ++ (decimalOf place ++ (quoted.bytes_of ", line " ++ decimalOf line))
+at-line place line = quoted.bytes_of " at byte " ++ (decimal_of place ++ (quoted.bytes_of ", line " ++ decimal_of line))
 
-pub line-is : (file : List ℕ) (place begun : ℕ) → begun ≡ length (lines_of (take place file)) → 1 + begun ≡ lineNumber file place
-unfolding lineNumber
-line-is file place begun e = omega (arith, e)
+pub line_is : (file : List ℕ) (place begun : ℕ) → begun ≡ length (lines_of (take place file)) → 1 + begun ≡ line_number file place
+unfolding line_number
+line_is file place begun e = omega (arith, e)
 
 module _ (file : List ℕ) (refusal place : ℕ) where
-  pub placed : (line : ℕ) → refusal ≡ 11 → line ≡ lineNumber file place → at-line place line ≡ place_of file refusal place
+  pub placed : (line : ℕ) → refusal ≡ 11 → line ≡ line_number file place → at-line place line ≡ place_of file refusal place
   unfolding place_of
   placed line e l = rw (eq-eqb refusal 11 e, l)
 
-  pub not-placed : (refusal ≡ 11 → ⊥) → [] ≡ place_of file refusal place
+  pub not_placed : (refusal ≡ 11 → ⊥) → [] ≡ place_of file refusal place
   unfolding place_of
-  not-placed n = rw (ne_eqb refusal 11 n)
+  not_placed n = rw (ne_eqb refusal 11 n)
 
   pub place-most : length (place_of file refusal place) ≤ 56
   unfolding place_of
   place-most = go (eqb refusal 11)
     where
-      few : length (at-line place (lineNumber file place)) ≤ 56
+      few : length (at-line place (line_number file place)) ≤ 56
       few =
           omega (
             arith,
-            length-append (decimalOf place) (quoted.bytes_of ", line " ++ decimalOf (lineNumber file place)),
+            length-append (decimal_of place) (quoted.bytes_of ", line " ++ decimal_of (line_number file place)),
             digits-most 20 place,
-            digits-most 20 (lineNumber file place),
+            digits-most 20 (line_number file place),
           )
 
-      go : (b : Bool) → length (cond b (at-line place (lineNumber file place)) []) ≤ 56
+      go : (b : Bool) → length (cond b (at-line place (line_number file place)) []) ≤ 56
       go true = few
       go false = omega arith
 

@@ -3,8 +3,8 @@ use Rattle.std.specs.Prelude.{cond, List, [], ◌∷◌, ◌++◌, ℕ, suc, eqb
 use Rattle.lists.specs.Quoted as quoted
 use Rattle.rules.specs.Answers.{Answer}
 use Rattle.ctfile.specs.Lines.{lines_of}
-use Rattle.ctfile.specs.Molfiles.{nameOfMolfile}
-use Rattle.lines.specs.Numbers.{decimalOf}
+use Rattle.ctfile.specs.Molfiles.{name_of_molfile}
+use Rattle.lines.specs.Numbers.{decimal_of}
 
 -- "the refusal in plain words where refused"
 unfoldable pub words_of : (refusal : ℕ) → List ℕ
@@ -21,29 +21,29 @@ words_of r =
     (cond (eqb r 11) (quoted.bytes_of "a broken or unsupported line") (quoted.bytes_of "not named"))))))))))
 
 -- the number of a line that begins at a place, counted from 1; a line that is missing has the number it would have
-unfoldable pub lineNumber : (file : List ℕ) (place : ℕ) → ℕ
-lineNumber file place = suc (length (lines_of (take place file)))
+unfoldable pub line_number : (file : List ℕ) (place : ℕ) → ℕ
+line_number file place = suc (length (lines_of (take place file)))
 
 -- "for 11, the line's number beside the place"
 unfoldable pub place_of : (file : List ℕ) (refusal place : ℕ) → List ℕ
 place_of file refusal place =
-    let there = quoted.bytes_of " at byte " ++ (decimalOf place ++ (quoted.bytes_of ", line " ++ decimalOf (lineNumber file place))) in
+    let there = quoted.bytes_of " at byte " ++ (decimal_of place ++ (quoted.bytes_of ", line " ++ decimal_of (line_number file place))) in
     cond (eqb refusal 11) there []
 
-unfoldable pub refusedLine : (file : List ℕ) (refusal place : ℕ) → List ℕ
-refusedLine file refusal place =
-    quoted.bytes_of "refused " ++ (decimalOf refusal ++ (place_of file refusal place ++ (quoted.bytes_of ": " ++ (words_of refusal ++ (10 ∷ [])))))
+unfoldable pub refused_line : (file : List ℕ) (refusal place : ℕ) → List ℕ
+refused_line file refusal place =
+    quoted.bytes_of "refused " ++ (decimal_of refusal ++ (place_of file refusal place ++ (quoted.bytes_of ": " ++ (words_of refusal ++ (10 ∷ [])))))
 
-unfoldable pub namedLine : (name : List ℕ) → List ℕ
-namedLine name = name ++ (10 ∷ [])
+unfoldable pub named_line : (name : List ℕ) → List ℕ
+named_line name = name ++ (10 ∷ [])
 
-abbrev pub shownAnswer : (file : List ℕ) → Answer → List ℕ
-shownAnswer file a = cond (eqb a.refusal 0) (namedLine a.bytes) (refusedLine file a.refusal a.place)
+abbrev pub shown_answer : (file : List ℕ) → Answer → List ℕ
+shown_answer file a = cond (eqb a.refusal 0) (named_line a.bytes) (refused_line file a.refusal a.place)
 
 -- "one line for each file with its name"; the allowance and the room are those of the program `name`
-unfoldable pub molLine : (file : List ℕ) → List ℕ
-molLine file = shownAnswer file (nameOfMolfile file 4096 2048)
+unfoldable pub mol_line : (file : List ℕ) → List ℕ
+mol_line file = shown_answer file (name_of_molfile file 4096 2048)
 
 -- "names each record": a record's number from 1, and the line of its bytes
-unfoldable pub recordLine : (number : ℕ) (file : List ℕ) → List ℕ
-recordLine n file = decimalOf n ++ (quoted.bytes_of ": " ++ molLine file)
+unfoldable pub record_line : (number : ℕ) (file : List ℕ) → List ℕ
+record_line n file = decimal_of n ++ (quoted.bytes_of ": " ++ mol_line file)

@@ -1,4 +1,6 @@
 // The programs `molname` and `sdfname` over a file descriptor: a molfile, or records of molfiles, in and a line for each out.
+#![tactic(auto)]
+
 use libc::STDOUT_FILENO;
 use lines::input::Unread;
 

@@ -1,7 +1,7 @@
 // Records of molfiles on a file descriptor, parted by lines that begin with $$$$.
 ghost use Rattle.std.specs.Prelude.{cond, [], ◌∷◌, ◌++◌, ◌≡◌, ◌≤◌, length, take};
 ghost use Rattle.lines.specs.Gathered.{Inside};
-ghost use Rattle.molnaming.specs.Records.{isParting, isBlank, allBlank, isRecord, withLine};
+ghost use Rattle.molnaming.specs.Records.{is_parting, is_blank, all_blank, is_record, with_line};
 
 use crate::part;
 use lines::input::Unread;
@@ -30,13 +30,13 @@ const ENOUGH: usize = 65537;
 const MOST_LINES: u64 = 9223372036854775808;
 
 fn is_parting(line: &[u8]) -> bool
-    ensures { result ≡ isParting line.now }
+    ensures { result ≡ is_parting line.now }
 {
     field::is_word(part::front(line, 4), b"$$$$")
 }
 
 fn is_blank(b: u8) -> bool
-    ensures { result ≡ isBlank b }
+    ensures { result ≡ is_blank b }
 {
     if b == SPACE {
         return true;
@@ -51,7 +51,7 @@ fn is_blank(b: u8) -> bool
 }
 
 fn all_blank(bytes: &[u8]) -> bool
-    ensures { result ≡ allBlank bytes.now }
+    ensures { result ≡ all_blank bytes.now }
 {
     let mut i: usize = 0;
     while i < bytes.len() {
@@ -65,7 +65,7 @@ fn all_blank(bytes: &[u8]) -> bool
 
 // Whether what follows the last parting line is a record.
 fn is_record(rest: &[u8]) -> bool
-    ensures { result ≡ isRecord rest.now }
+    ensures { result ≡ is_record rest.now }
 {
     if ENOUGH <= rest.len() {
         return true;
@@ -76,7 +76,7 @@ fn is_record(rest: &[u8]) -> bool
 // The record with the newline of the line that was read behind it, which ends at `end`; answers how many bytes are held.
 fn hold(file: &mut [u8], end: usize, ended: bool) -> usize
     requires { (end ≤ length file.old) × (65537 ≤ length file.old) }
-    ensures { (take result file.new ≡ withLine file.old end ended) × (result ≤ 65537) }
+    ensures { (take result file.new ≡ with_line file.old end ended) × (result ≤ 65537) }
 {
     if ENOUGH <= end {
         return ENOUGH;

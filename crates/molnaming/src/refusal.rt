@@ -1,7 +1,7 @@
 // A refusal in plain words.
 ghost use Rattle.std.specs.Prelude.{◌+◌, ◌≤◌, length};
 ghost use Rattle.lines.specs.Written.{Puts, Prints};
-ghost use Rattle.molnaming.specs.Lines.{words_of, place_of, refusedLine};
+ghost use Rattle.molnaming.specs.Lines.{words_of, place_of, refused_line};
 
 use crate::part;
 use lines::output;
@@ -57,7 +57,7 @@ fn put_place(file: &[u8], refusal: u8, place: usize, out: &mut [u8], at: usize) 
 // The line of a refused file, at the start of a buffer; answers its length.
 pub fn put_refusal(file: &[u8], refusal: u8, place: usize, out: &mut [u8]) -> usize
     requires { 190 ≤ length out.old }
-    ensures { Prints (refusedLine file.now refusal place) out.old out.new result }
+    ensures { Prints (refused_line file.now refusal place) out.old out.new result }
 {
     let refused = output::put_piece(out, 0, b"refused ");
     let number = output::put_digits(out, refused, refusal as u64);

@@ -1,4 +1,6 @@
 // The program `name` on inputs of 0, 4,096 and 4,097 bytes.
+#![tactic(auto)]
+
 fn name_file(path: &[u8]) {
     let fd = os::open_read(path);
     if fd < 0 {

@@ -1,7 +1,9 @@
 // The program `name` over a file descriptor: a card in, a line out.
+#![tactic(auto)]
+
 ghost use Rattle.std.specs.Prelude.{◌≡◌, ◌+◌, ◌≤◌, length};
 ghost use Rattle.lines.specs.Written.{Prints};
-ghost use Rattle.naming.specs.Lines.{shown, nameLine};
+ghost use Rattle.naming.specs.Lines.{shown, name_line};
 
 use libc::STDOUT_FILENO;
 use lines::output;
@@ -34,7 +36,7 @@ fn name_buffer() -> [u8; MOST_NAME]
 // The line that is printed for an input, at the start of a buffer; answers its length.
 pub fn name_line(input: &[u8], printed: &mut [u8]) -> usize
     requires { 2113 ≤ length printed.old }
-    ensures { Prints (nameLine input.now) printed.old printed.new result }
+    ensures { Prints (name_line input.now) printed.old printed.new result }
 {
     if MOST_CARD < input.len() {
         return bytes::copy(b"4 0 0 -\n", printed);

@@ -4,8 +4,8 @@ use mathlib.Core.Path.{◌≡◌, refl, sym, ◌∙◌, ap, subst}
 use Prim.Native.Nat.{ℕ, ◌≤◌}
 use lib.ListN.{length, get_or, take, drop}
 use lib.Seq.{take_at}
-use Rattle.rules.specs.Answers.{Answer, refused, accepted, at_exit, name_of, cardOf}
-use Rattle.rules.specs.Contracts.{Result, Allowed}
+use Rattle.rules.specs.Answers.{Answer, refused, accepted, at_exit, name_of, card_of}
+use Rattle.rules.specs.Allowed.{Result, Allowed}
 use Rattle.rules.specs.Promises.{Same, Again}
 use Rattle.rules.specs.Runs.{output, CardRun, SameRuns, ApartRuns, AgainRuns}
 use Rattle.rules.proofs.Settled.{settled}
@@ -33,13 +33,13 @@ accepted-run a k out lent e =
     (record { refusal = refl; place = refl; leaves = refl; written = refl; lent = refl })
 
 -- runs of answers that are equal leave the same
-equal-runs : (a a' : Answer) (lent : List ℕ) (r r' : Result) → a' ≡ a → Allowed a lent r → Allowed a' lent r' → r ≡ r'
-equal-runs a a' lent r r' e p p' = settled a lent r r' p (subst (λ x. Allowed x lent r') e p')
+equal_runs : (a a' : Answer) (lent : List ℕ) (r r' : Result) → a' ≡ a → Allowed a lent r → Allowed a' lent r' → r ≡ r'
+equal_runs a a' lent r r' e p p' = settled a lent r r' p (subst (λ x. Allowed x lent r') e p')
 
 pub same_runs : SameRuns
 same_runs σ card card' w w' E = record {
-  name = λ allowance lent r r' p p'. equal-runs _ _ lent r r' (s.name allowance (length lent)) p p';
-  canonical = λ allowance lent r r' p p'. equal-runs _ _ lent r r' (s.canonical allowance (length lent)) p p';
+  name = λ allowance lent r r' p p'. equal_runs _ _ lent r r' (s.name allowance (length lent)) p p';
+  canonical = λ allowance lent r r' p p'. equal_runs _ _ lent r r' (s.canonical allowance (length lent)) p p';
   marks = λ allowance lent r r' p p' i h.
       ap (λ l. get_or l (σ i) 0) (run-output _ lent r' p') ∙ (s.marks allowance (length lent)).carried i h ∙ sym (ap (λ l. get_or l i 0) (run-output _ lent r p));
 }
@@ -64,8 +64,8 @@ again-runs card allowance lent r p e = record {
     g : Again card allowance (length lent)
     g = again card allowance (length lent) (sym p.refusal ∙ e)
 
-    card-answer : (lent' : List ℕ) → length g.back ≤ length lent' → cardOf (output r) (length lent') ≡ accepted 0 g.back
-    card-answer lent' h = ap (λ s. cardOf s (length lent')) (run-output _ lent r p) ∙ g.read (length lent') h
+    card-answer : (lent' : List ℕ) → length g.back ≤ length lent' → card_of (output r) (length lent') ≡ accepted 0 g.back
+    card-answer lent' h = ap (λ s. card_of s (length lent')) (run-output _ lent r p) ∙ g.read (length lent') h
 
     card-output : (lent' : List ℕ) (q : Result) → length g.back ≤ length lent' → CardRun (output r) lent' q → output q ≡ g.back
     card-output lent' q h c = run-output _ lent' q c ∙ ap (λ a. a.bytes) (card-answer lent' h)

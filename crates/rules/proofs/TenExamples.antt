@@ -29,6 +29,6 @@ rows =
     ∷ []
 
 -- under the greatest allowance, in room for any name
-ten-examples : map (λ (e : Row). name_of (hex e.card) 65535 2048) rows ≡ map (λ (e : Row). accepted e.leaves (bytes_of e.name)) rows
+ten_examples : map (λ (e : Row). name_of (hex e.card) 65535 2048) rows ≡ map (λ (e : Row). accepted e.leaves (bytes_of e.name)) rows
 unfolding rules rows
-ten-examples = refl
+ten_examples = refl

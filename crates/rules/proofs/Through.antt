@@ -6,35 +6,35 @@ use Rattle.lists.specs.Upto.{each}
 use Rattle.lists.proofs.Upto.{each-eq}
 use Rattle.molecule.specs.Molecule.{Molecule}
 use Rattle.molecule.specs.Renumbering.{Renumbered}
-use Rattle.molecule.specs.Written.{cardBytes}
-use Rattle.molecule.proofs.Alike.{cardBytes-alike}
-use Rattle.molecule.proofs.Renumberings.{renumbered-trans}
+use Rattle.molecule.specs.Written.{card_bytes}
+use Rattle.molecule.proofs.Alike.{card_bytes-alike}
+use Rattle.molecule.proofs.Renumberings.{renumbered_trans}
 use Rattle.classes.specs.Refining.{rule1}
-use Rattle.classes.specs.Numberings.{leafCount}
-use Rattle.classes.specs.Canonical.{classMark, byRank, canonical}
+use Rattle.classes.specs.Numberings.{leaf_count}
+use Rattle.classes.specs.Canonical.{class_mark, by_rank, canonical}
 use Rattle.classes.proofs.Carried.{rule1-law}
-use Rattle.classes.proofs.Renumbered.{leafCount-renumbered, classMark-renumbered}
+use Rattle.classes.proofs.Renumbered.{leaf_count-renumbered, class_mark-renumbered}
 use Rattle.classes.proofs.Canonical.{canonical-unchanged}
-use Rattle.sling.specs.Printed.{nameBytes}
+use Rattle.sling.specs.Printed.{name_bytes}
 use Rattle.sling.proofs.Alike.{name-alike}
-use Rattle.rules.specs.Answers.{nameOut, canonicalOut, marksOut}
+use Rattle.rules.specs.Answers.{name_out, canonical_out, marks_out}
 
 module _ {M N : Molecule} (E : Renumbered (λ a. a) M N) where
-  pub leaves-through : leafCount rule1 N ≡ leafCount rule1 M
-  leaves-through = leafCount-renumbered rule1 rule1-law E
+  pub leaves-through : leaf_count rule1 N ≡ leaf_count rule1 M
+  leaves-through = leaf_count-renumbered rule1 rule1-law E
 
-  pub marks-through : each N.size (classMark rule1 N) ≡ marksOut M
-  unfolding marksOut
-  marks-through = ap (λ n. each n (classMark rule1 N)) E.size ∙ each-eq M.size (classMark rule1 N) (classMark rule1 M) (classMark-renumbered rule1 rule1-law E)
+  pub marks-through : each N.size (class_mark rule1 N) ≡ marks_out M
+  unfolding marks_out
+  marks-through = ap (λ n. each n (class_mark rule1 N)) E.size ∙ each-eq M.size (class_mark rule1 N) (class_mark rule1 M) (class_mark-renumbered rule1 rule1-law E)
 
   module _ {W : Molecule} (F : Renumbered (λ a. a) (canonical rule1 N) W) where
     canonical-through : Renumbered (λ a. a) (canonical rule1 M) W
-    canonical-through = renumbered-trans (canonical-unchanged rule1 rule1-law E) F
+    canonical-through = renumbered_trans (canonical-unchanged rule1 rule1-law E) F
 
-    pub name-through : 0 < M.size → nameBytes W ≡ nameOut M
-    unfolding nameOut canonical byRank
+    pub name-through : 0 < M.size → name_bytes W ≡ name_out M
+    unfolding name_out canonical by_rank
     name-through h = sym (name-alike (canonical rule1 M) W canonical-through h)
 
-    pub card-through : cardBytes W ≡ canonicalOut M
-    unfolding canonicalOut
-    card-through = sym (cardBytes-alike canonical-through)
+    pub card-through : card_bytes W ≡ canonical_out M
+    unfolding canonical_out
+    card-through = sym (card_bytes-alike canonical-through)

@@ -15,9 +15,9 @@ use Rattle.classes.specs.Numberings.{shared, ahead}
 use Rattle.classes.specs.Tables.{holder}
 use Rattle.classes.proofs.Rankings.{Ranking, ranked-ranking, ahead-refines, refined-refines}
 use Rattle.classes.proofs.Refined.{refined-fixed}
-use Rattle.classes.proofs.Shared.{of-holding}
+use Rattle.classes.proofs.Shared.{of_holding}
 use Rattle.classes.proofs.Complete.{holder-below, at-holder}
-use Rattle.classes.proofs.Leaves.{leaves-step, numbering-complete, numbering-some}
+use Rattle.classes.proofs.Leaves.{leaves-step, numbering_complete, numbering_some}
 use Rattle.rules.specs.Promises.{InTree, root, child, AlwaysWhole}
 
 refine-length : (R : Rule) (M : Molecule) (k : ℕ) (m : Marking) → length m ≡ M.size → length (refine R M k m) ≡ M.size
@@ -48,21 +48,21 @@ refined-settles R M m K e = record {
 tree-settles : (R : Rule) (M : Molecule) {m : Marking} → InTree R M m → Settles R M m
 tree-settles R M root = refined-settles R M (ranked M) (ranked-ranking M) (unfold ranked in length-each M.size _)
 tree-settles R M (child {m} {a} t d) =
-    let w = of-holding M.size m (shared M.size m) a d in
+    let w = of_holding M.size m (shared M.size m) a d in
     refined-settles R M (ahead M.size m (shared M.size m) a)
     (ahead-refines M.size m (shared M.size m) a (tree-settles R M t).ranking w.0 w.1).ranking (unfold ahead in length-each M.size _)
 
-settles-pass : (R : Rule) (M : Molecule) (m : Marking) → Settles R M m → pass R M m ≡ m
-settles-pass R M m s =
+settles_pass : (R : Rule) (M : Molecule) (m : Marking) → Settles R M m → pass R M m ≡ m
+settles_pass R M m s =
     let e : length (pass R M m) ≡ M.size = unfold pass in length-each M.size _ in
     ext_get_or 0 (pass R M m) m (e ∙ sym s.long) (λ i h. s.fixed i (omega arith))
 
 pub whole : AlwaysWhole
 whole R M = record {
-  settled = λ t. settles-pass R M _ (tree-settles R M t);
+  settled = λ t. settles_pass R M _ (tree-settles R M t);
   tree = λ t. leaves-step R M _ (tree-settles R M t).ranking;
-  complete = λ d. (numbering-complete R M _ d).unshared;
-  held = λ {m} d r h. let C = numbering-complete R M m d in (holder M.size m (suc r), holder-below C r h, at-holder C r h);
-  apart = λ d. (numbering-complete R M _ d).apart;
-  some = λ e. let w = numbering-some R M in Memᴰ.not-nil (subst (λ l. Memᴰ w.0 l) e w.1);
+  complete = λ d. (numbering_complete R M _ d).unshared;
+  held = λ {m} d r h. let C = numbering_complete R M m d in (holder M.size m (suc r), holder-below C r h, at-holder C r h);
+  apart = λ d. (numbering_complete R M _ d).apart;
+  some = λ e. let w = numbering_some R M in Memᴰ.not-nil (subst (λ l. Memᴰ w.0 l) e w.1);
 }

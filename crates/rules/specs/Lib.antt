@@ -1,4 +1,4 @@
 pub mod Answers
-pub mod Contracts
+pub mod Allowed
 pub mod Promises
 pub mod Runs

@@ -3,12 +3,12 @@ use Rattle.std.specs.Prelude.{cond, ◌≢◌, ◌≡◌, ℕ, suc, ◌<◌, ◌
 use mathlib.Core.List.{List, [], ◌∷◌, map, flatten, Memᴰ}
 use Rattle.molecule.specs.Molecule.{Molecule}
 use Rattle.molecule.specs.Renumbering.{Renumbered}
-use Rattle.molecule.specs.Judged.{moleculeOf, WellFormed}
+use Rattle.molecule.specs.Judged.{molecule_of, WellFormed}
 use Rattle.classes.specs.Markings.{Marking, at, ranked}
 use Rattle.classes.specs.Refining.{Rule, rule1, pass, refined}
-use Rattle.classes.specs.Numberings.{holding, shared, ahead, leaves, numberings, leafCount}
-use Rattle.rules.specs.Answers.{Answer, refused, accepted, at_exit, name_of, cardOf, canonicalOf, marksOf}
-use Rattle.rules.specs.Contracts.{Result, Allowed}
+use Rattle.classes.specs.Numberings.{holding, shared, ahead, leaves, numberings, leaf_count}
+use Rattle.rules.specs.Answers.{Answer, refused, accepted, at_exit, name_of, card_of, canonical_of, marks_of}
+use Rattle.rules.specs.Allowed.{Result, Allowed}
 
 -- ---- Settled: "any two results allowed for one input are equal"
 
@@ -25,9 +25,9 @@ pub record KeptBy (a : Answer) (lent : List ℕ) : Type 0 where
 
 pub record AlwaysKept : Type 0 where
   pub name : (card : List ℕ) (allowance : ℕ) (lent : List ℕ) → KeptBy (name_of card allowance (length lent)) lent
-  pub card : (text lent : List ℕ) → KeptBy (cardOf text (length lent)) lent
-  pub canonical : (card : List ℕ) (allowance : ℕ) (lent : List ℕ) → KeptBy (canonicalOf card allowance (length lent)) lent
-  pub marks : (card : List ℕ) (allowance : ℕ) (lent : List ℕ) → KeptBy (marksOf card allowance (length lent)) lent
+  pub card : (text lent : List ℕ) → KeptBy (card_of text (length lent)) lent
+  pub canonical : (card : List ℕ) (allowance : ℕ) (lent : List ℕ) → KeptBy (canonical_of card allowance (length lent)) lent
+  pub marks : (card : List ℕ) (allowance : ℕ) (lent : List ℕ) → KeptBy (marks_of card allowance (length lent)) lent
 
 -- ---- Whole: no bound of a definition is ever met, so that each says what document 01 says
 
@@ -60,8 +60,8 @@ AlwaysWhole = (R : Rule) (M : Molecule) → Whole R M
 -- ---- Answered: "Giving up is allowed only where the number of numberings exceeds the caller's allowance"; "2,048 bytes hold any name"
 
 pub record Answered (card : List ℕ) : Type 0 where
-  pub gaveUp : (allowance room : ℕ) → allowance < leafCount rule1 (moleculeOf card) → name_of card allowance room ≡ refused 9 0
-  pub named : (allowance room : ℕ) → leafCount rule1 (moleculeOf card) ≤ allowance → 2048 ≤ room → (name_of card allowance room).refusal ≡ 0
+  pub gave_up : (allowance room : ℕ) → allowance < leaf_count rule1 (molecule_of card) → name_of card allowance room ≡ refused 9 0
+  pub named : (allowance room : ℕ) → leaf_count rule1 (molecule_of card) ≤ allowance → 2048 ≤ room → (name_of card allowance room).refusal ≡ 0
 
 abbrev pub AlwaysAnswered : Type 0
 AlwaysAnswered = (card : List ℕ) → WellFormed card → Answered card
@@ -77,12 +77,12 @@ pub record SameMarks (σ : ℕ → ℕ) (n : ℕ) (a a' : Answer) : Type 0 where
 
 pub record Same (σ : ℕ → ℕ) (card card' : List ℕ) : Type 0 where
   pub name : (allowance room : ℕ) → name_of card' allowance room ≡ name_of card allowance room
-  pub canonical : (allowance room : ℕ) → canonicalOf card' allowance room ≡ canonicalOf card allowance room
-  pub marks : (allowance room : ℕ) → SameMarks σ (moleculeOf card).size (marksOf card allowance room) (marksOf card' allowance room)
+  pub canonical : (allowance room : ℕ) → canonical_of card' allowance room ≡ canonical_of card allowance room
+  pub marks : (allowance room : ℕ) → SameMarks σ (molecule_of card).size (marks_of card allowance room) (marks_of card' allowance room)
 
 abbrev pub AlwaysSame : Type 0
 AlwaysSame =
-    (σ : ℕ → ℕ) (card card' : List ℕ) → WellFormed card → WellFormed card' → Renumbered σ (moleculeOf card) (moleculeOf card') → Same σ card card'
+    (σ : ℕ → ℕ) (card card' : List ℕ) → WellFormed card → WellFormed card' → Renumbered σ (molecule_of card) (molecule_of card') → Same σ card card'
 
 -- ---- Apart: "equal names mean that such a renumbering exists", whatever the allowances and rooms
 
@@ -91,14 +91,14 @@ AlwaysApart =
     (card card' : List ℕ) (allowance room allowance' room' : ℕ)
     → (name_of card allowance room).refusal ≡ 0 → (name_of card' allowance' room').refusal ≡ 0
     → (name_of card allowance room).bytes ≡ (name_of card' allowance' room').bytes
-    → (σ : ℕ → ℕ) × Renumbered σ (moleculeOf card) (moleculeOf card')
+    → (σ : ℕ → ℕ) × Renumbered σ (molecule_of card) (molecule_of card')
 
 -- ---- Again: "a name read back and named again gives itself", "under the allowance and room that gave it"
 
 pub record Again (card : List ℕ) (allowance room : ℕ) : Type 0 where
   pub back : List ℕ
-  pub read : (room' : ℕ) → length back ≤ room' → cardOf (name_of card allowance room).bytes room' ≡ accepted 0 back
-  pub wellFormed : WellFormed back
+  pub read : (room' : ℕ) → length back ≤ room' → card_of (name_of card allowance room).bytes room' ≡ accepted 0 back
+  pub well_formed : WellFormed back
   pub named : name_of back allowance room ≡ name_of card allowance room
 
 abbrev pub AlwaysAgain : Type 0
@@ -107,4 +107,4 @@ AlwaysAgain = (card : List ℕ) (allowance room : ℕ) → (name_of card allowan
 -- ---- Read: a card that is written for a text is well formed ("Text is connected by its making")
 
 abbrev pub AlwaysRead : Type 0
-AlwaysRead = (text : List ℕ) (room : ℕ) → (cardOf text room).refusal ≡ 0 → WellFormed (cardOf text room).bytes
+AlwaysRead = (text : List ℕ) (room : ℕ) → (card_of text room).refusal ≡ 0 → WellFormed (card_of text room).bytes

@@ -4,7 +4,7 @@ use Prim.Native.Nat.{ℕ, ◌≤◌}
 use native.Mathlib.Omega.{arith}
 use lib.ListN.{length, drop, length-append}
 use Rattle.rules.specs.Answers.{Answer, at_exit}
-use Rattle.rules.specs.Contracts.{Result, Allowed}
+use Rattle.rules.specs.Allowed.{Result, Allowed}
 use Rattle.rules.specs.Promises.{KeptBy}
 use Rattle.rules.specs.Runs.{NameRun, CardRun, CanonicalRun, MarksRun}
 use Rattle.ctfile.specs.Molfiles.{MolfileRun}
@@ -25,8 +25,8 @@ module _ (card : List ℕ) (allowance : ℕ) (lent : List ℕ) (r : Result) wher
   pub marks-fit : MarksRun card allowance lent r → r.length ≤ length lent
   marks-fit = run_fits _ lent r (kept.marks card allowance lent)
 
-pub molfile-fits : (file : List ℕ) (allowance : ℕ) (lent : List ℕ) (r : Result) → MolfileRun file allowance lent r → r.length ≤ length lent
-molfile-fits file allowance lent r = run_fits _ lent r (ctfile.kept file allowance lent)
+pub molfile_fits : (file : List ℕ) (allowance : ℕ) (lent : List ℕ) (r : Result) → MolfileRun file allowance lent r → r.length ≤ length lent
+molfile_fits file allowance lent r = run_fits _ lent r (ctfile.kept file allowance lent)
 
 pub card-fits : (text lent : List ℕ) (r : Result) → CardRun text lent r → r.length ≤ length lent
 card-fits text lent r = run_fits _ lent r (kept.card text lent)

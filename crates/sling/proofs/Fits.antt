@@ -7,17 +7,17 @@ use native.Mathlib.Omega.{arith}
 use lib.ListN.{length, get_or}
 use Rattle.lists.specs.Upto.{upto, each, sum}
 use Rattle.lists.proofs.Booleans.{and_both}
-use Rattle.lists.proofs.Kept.{mem-keep}
-use Rattle.lists.proofs.Upto.{mem-upto}
-use Rattle.lists.proofs.Passed.{count-map-le}
-use Rattle.lists.proofs.Members.{mem-place}
+use Rattle.lists.proofs.Kept.{mem_keep}
+use Rattle.lists.proofs.Upto.{mem_upto}
+use Rattle.lists.proofs.Passed.{count-map_le}
+use Rattle.lists.proofs.Members.{mem_place}
 use Rattle.molecule.specs.Bonds.{on}
 use Rattle.molecule.specs.Molecule.{Molecule, hydrogens, neighbours}
 use Rattle.molecule.specs.Renumbering.{Renumbered}
 use Rattle.molecule.proofs.Sound.{Sound}
 use Rattle.molecule.proofs.Alike.{over, hydrogens-along, degree-along, sum-along}
-use Rattle.sling.specs.Reading.{State, isH, toH, hydrogensOn, bondsOn}
-use Rattle.sling.specs.Folded.{heavyPlaces, folded, loneH}
+use Rattle.sling.specs.Reading.{State, is_h, to_h, hydrogens_on, bonds_on}
+use Rattle.sling.specs.Folded.{heavy_places, folded, lone_h}
 use Rattle.sling.proofs.Tidy.{Tidy, heavy-within}
 use Rattle.sling.proofs.Folds.{folded-size, folded-degree, folded-bonds, folded-hydrogens}
 use Rattle.sling.proofs.Limits.{Room}
@@ -43,13 +43,13 @@ fits_along {M = M} {M' = M'} E F =
     }
 
 -- the atom at a heavy place
-pub atom-at : (st : State) (p : ℕ) → isH st p ≡ false → (a : ℕ) × (a < (folded st).size) × (get_or (heavyPlaces st) a 0 ≡ p)
-unfolding folded heavyPlaces
+pub atom-at : (st : State) (p : ℕ) → is_h st p ≡ false → (a : ℕ) × (a < (folded st).size) × (get_or (heavy_places st) a 0 ≡ p)
+unfolding folded heavy_places
 atom-at st p e =
-    let p-in = mem-upto (length st.kinds) p (heavy-within st.kinds p e) in
-    mem-place (heavyPlaces st) p 0 (mem-keep (λ q. not (isH st q)) (upto (length st.kinds)) p p-in (ap not e))
+    let p-in = mem_upto (length st.kinds) p (heavy-within st.kinds p e) in
+    mem_place (heavy_places st) p 0 (mem_keep (λ q. not (is_h st q)) (upto (length st.kinds)) p p-in (ap not e))
 
-module _ (st : State) (t : Tidy st.kinds st.bonds) (lone : loneH st ≡ false) where
+module _ (st : State) (t : Tidy st.kinds st.bonds) (lone : lone_h st ≡ false) where
   pub room_fits : Room st → Fits (folded st)
   unfolding folded
   room_fits R =
@@ -57,8 +57,8 @@ module _ (st : State) (t : Tidy st.kinds st.bonds) (lone : loneH st ≡ false) w
         atoms = omega (arith, folded-size st t, R.atoms);
         hydrogens = omega (arith, folded-hydrogens st t lone, R.hydrogens);
         bonds = omega (arith, folded-bonds st t, R.bonds);
-        few = λ a h. R.hydrogensAt (get_or (heavyPlaces st) a 0);
-        degrees = λ a h. omega (arith, folded-degree st t a h, R.bondsAt (get_or (heavyPlaces st) a 0));
+        few = λ a h. R.hydrogens_at (get_or (heavy_places st) a 0);
+        degrees = λ a h. omega (arith, folded-degree st t a h, R.bonds_at (get_or (heavy_places st) a 0));
       }
 
   pub fits-room : Fits (folded st) → Room st
@@ -68,14 +68,14 @@ module _ (st : State) (t : Tidy st.kinds st.bonds) (lone : loneH st ≡ false) w
         atoms = omega (arith, folded-size st t, F.atoms);
         hydrogens = omega (arith, folded-hydrogens st t lone, F.hydrogens);
         bonds = omega (arith, folded-bonds st t, F.bonds);
-        hydrogensAt = λ p. hs p (isH st p) refl;
-        bondsAt = λ p. bs p (isH st p) refl;
+        hydrogens_at = λ p. hs p (is_h st p) refl;
+        bonds_at = λ p. bs p (is_h st p) refl;
       }
     where
-      hs : (p : ℕ) (b : Bool) → isH st p ≡ b → hydrogensOn st p ≤ 4
-      hs p true e = omega (arith, count-map-le st.bonds (λ b. on p b && toH st b) (on p) (λ b m z. (and_both (on p b) _ z).0), t.leaf p e)
-      hs p false e = let w = atom-at st p e in subst (λ (q : ℕ). hydrogensOn st q ≤ 4) w.2 (F.few w.0 w.1)
+      hs : (p : ℕ) (b : Bool) → is_h st p ≡ b → hydrogens_on st p ≤ 4
+      hs p true e = omega (arith, count-map_le st.bonds (λ b. on p b && to_h st b) (on p) (λ b m z. (and_both (on p b) _ z).0), t.leaf p e)
+      hs p false e = let w = atom-at st p e in subst (λ (q : ℕ). hydrogens_on st q ≤ 4) w.2 (F.few w.0 w.1)
 
-      bs : (p : ℕ) (b : Bool) → isH st p ≡ b → bondsOn st p ≤ 6
-      bs p true e = omega (arith, count-map-le st.bonds (λ b. on p b && not (toH st b)) (on p) (λ b m z. (and_both (on p b) _ z).0), t.leaf p e)
-      bs p false e = let w = atom-at st p e in subst (λ (q : ℕ). bondsOn st q ≤ 6) w.2 (omega (arith, folded-degree st t w.0 w.1, F.degrees w.0 w.1))
+      bs : (p : ℕ) (b : Bool) → is_h st p ≡ b → bonds_on st p ≤ 6
+      bs p true e = omega (arith, count-map_le st.bonds (λ b. on p b && not (to_h st b)) (on p) (λ b m z. (and_both (on p b) _ z).0), t.leaf p e)
+      bs p false e = let w = atom-at st p e in subst (λ (q : ℕ). bonds_on st q ≤ 6) w.2 (omega (arith, folded-degree st t w.0 w.1, F.degrees w.0 w.1))

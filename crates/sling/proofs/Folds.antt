@@ -12,21 +12,21 @@ use lib.Dec.{eqb}
 use borrow.Author.Tests.{eq-eqb, ne_eqb, eqb-true, eqb-false, not-true}
 use Rattle.lists.specs.Upto.{upto, each, sum}
 use Rattle.lists.specs.Tests.{keep, count, some}
-use Rattle.lists.proofs.Booleans.{or-neither}
-use Rattle.lists.proofs.Sums.{sum-eq, sum-map-add, sum-map-const, count-sum, sum-swap}
-use Rattle.lists.proofs.Kept.{of-keep}
-use Rattle.lists.proofs.Upto.{of-upto, each-getD}
+use Rattle.lists.proofs.Booleans.{or_neither}
+use Rattle.lists.proofs.Sums.{sum-eq, sum-map_add, sum-map_const, count-sum, sum-swap}
+use Rattle.lists.proofs.Kept.{of_keep}
+use Rattle.lists.proofs.Upto.{of_upto, each-get_or}
 use Rattle.lists.proofs.Counts.{count_none, count-pick}
-use Rattle.lists.proofs.Members.{map-eq, getD-mem}
-use Rattle.lists.proofs.Passed.{length-keep, count-not, count-map-le, count-keep}
+use Rattle.lists.proofs.Members.{map-eq, get_or-mem}
+use Rattle.lists.proofs.Passed.{length-keep, count-not, count-map_le, count-keep}
 use Rattle.lists.proofs.All.{All, map-all}
-use Rattle.lists.proofs.Tested.{some-true-count, some_one}
+use Rattle.lists.proofs.Tested.{some-true_count, some_one}
 use Rattle.molecule.specs.Bonds.{Bond, on, joins, code_in}
 use Rattle.molecule.specs.Molecule.{hydrogens, bonded, neighbours}
 use Rattle.molecule.proofs.BondLists.{joins-ends, ends-count}
-use Rattle.sling.specs.Reading.{State, isH, toH, hydrogensOn, bondsOn}
-use Rattle.sling.specs.Faults.{heavyAtoms, hydrogenAtoms, heavyBonds}
-use Rattle.sling.specs.Folded.{heavyPlaces, folded, loneH}
+use Rattle.sling.specs.Reading.{State, is_h, to_h, hydrogens_on, bonds_on}
+use Rattle.sling.specs.Faults.{heavy_atoms, hydrogen_atoms, heavy_bonds}
+use Rattle.sling.specs.Folded.{heavy_places, folded, lone_h}
 use Rattle.sling.proofs.Tidy.{Proper, Tidy, first-joined, Joined}
 
 -- of a bond that is not between two H: how many of its ends are H, and how many are not, if it is to an H or if it is not
@@ -37,7 +37,7 @@ one-heavy false true e f = refl
 one-heavy false false e f = absurd (true≢false (sym f))
 
 two-heavy : (x y : Bool) → (x || y) ≡ false → cond {A = ℕ} (not x) 1 0 + cond (not y) 1 0 ≡ 2
-two-heavy x y f = let n = or-neither x y f in rw (n.0, n.1)
+two-heavy x y f = let n = or_neither x y f in rw (n.0, n.1)
 
 one-h : (x y : Bool) → (x && y) ≡ false → cond {A = ℕ} x 1 0 + cond y 1 0 ≡ cond (x || y) 1 0
 one-h true true e = absurd (true≢false e)
@@ -46,52 +46,52 @@ one-h false y e = omega arith
 
 module _ (st : State) (b : Bond) (g : Proper st.kinds b) where
   -- heavy ends of a bond to an H
-  h-ends : count (each (length st.kinds) (λ p. not (isH st p) && (on p b && toH st b))) ≡ cond (toH st b) 1 0
-  h-ends = pick (toH st b) refl
+  h_ends : count (each (length st.kinds) (λ p. not (is_h st p) && (on p b && to_h st b))) ≡ cond (to_h st b) 1 0
+  h_ends = pick (to_h st b) refl
     where
-      pick : (x : Bool) → toH st b ≡ x → count (each (length st.kinds) (λ p. not (isH st p) && (on p b && toH st b))) ≡ cond (toH st b) 1 0
+      pick : (x : Bool) → to_h st b ≡ x → count (each (length st.kinds) (λ p. not (is_h st p) && (on p b && to_h st b))) ≡ cond (to_h st b) 1 0
       pick true e =
           simp (e, and-true)
-          (ends-count (length st.kinds) (λ p. not (isH st p)) b (g.one, g.two, g.apart) ∙ one-heavy (isH st b.one) (isH st b.two) g.heavy e)
+          (ends-count (length st.kinds) (λ p. not (is_h st p)) b (g.one, g.two, g.apart) ∙ one-heavy (is_h st b.one) (is_h st b.two) g.heavy e)
       pick false e = simp (e, and-false) (count_none (length st.kinds) (λ p. false) (λ p l. refl))
 
   -- heavy ends of another bond
-  heavy-ends : count (each (length st.kinds) (λ p. not (isH st p) && (on p b && not (toH st b)))) ≡ 2 * cond (not (toH st b)) 1 0
-  heavy-ends = pick (toH st b) refl
+  heavy-ends : count (each (length st.kinds) (λ p. not (is_h st p) && (on p b && not (to_h st b)))) ≡ 2 * cond (not (to_h st b)) 1 0
+  heavy-ends = pick (to_h st b) refl
     where
-      pick : (x : Bool) → toH st b ≡ x → count (each (length st.kinds) (λ p. not (isH st p) && (on p b && not (toH st b)))) ≡ 2 * cond (not (toH st b)) 1 0
+      pick : (x : Bool) → to_h st b ≡ x → count (each (length st.kinds) (λ p. not (is_h st p) && (on p b && not (to_h st b)))) ≡ 2 * cond (not (to_h st b)) 1 0
       pick true e = simp (e, and-false) (count_none (length st.kinds) (λ p. false) (λ p l. refl))
       pick false e =
           simp (e, and-true)
-          (ends-count (length st.kinds) (λ p. not (isH st p)) b (g.one, g.two, g.apart) ∙ two-heavy (isH st b.one) (isH st b.two) e)
+          (ends-count (length st.kinds) (λ p. not (is_h st p)) b (g.one, g.two, g.apart) ∙ two-heavy (is_h st b.one) (is_h st b.two) e)
 
   -- ends that are H
-  hs-ends : count (each (length st.kinds) (λ p. isH st p && on p b)) ≡ cond (toH st b) 1 0
-  hs-ends = ends-count (length st.kinds) (isH st) b (g.one, g.two, g.apart) ∙ one-h (isH st b.one) (isH st b.two) g.heavy
+  hs_ends : count (each (length st.kinds) (λ p. is_h st p && on p b)) ≡ cond (to_h st b) 1 0
+  hs_ends = ends-count (length st.kinds) (is_h st) b (g.one, g.two, g.apart) ∙ one-h (is_h st b.one) (is_h st b.two) g.heavy
 
   -- heavy places that b joins with a heavy place p
-  other-end : (p : ℕ) → isH st p ≡ false → count (each (length st.kinds) (λ q. not (isH st q) && joins p q b)) ≡ cond (on p b && not (toH st b)) 1 0
-  other-end p h = pick (eqb b.one p) (eqb b.two p) refl refl
+  other_end : (p : ℕ) → is_h st p ≡ false → count (each (length st.kinds) (λ q. not (is_h st q) && joins p q b)) ≡ cond (on p b && not (to_h st b)) 1 0
+  other_end p h = pick (eqb b.one p) (eqb b.two p) refl refl
     where
       pick : (x y : Bool) → eqb b.one p ≡ x → eqb b.two p ≡ y
-          → count (each (length st.kinds) (λ q. not (isH st q) && joins p q b)) ≡ cond (on p b && not (toH st b)) 1 0
+          → count (each (length st.kinds) (λ q. not (is_h st q) && joins p q b)) ≡ cond (on p b && not (to_h st b)) 1 0
       pick true true e f = absurd (g.apart (eqb-true _ _ e ∙ sym (eqb-true _ _ f)))
       pick true false e f =
           let y : b.one ≡ p = eqb-true _ _ e in
-          let z : isH st b.one ≡ false = rw y h in
-          simp (e, f, z, and-false, or-false) (count-pick (length st.kinds) b.two (λ q. not (isH st q)) g.two)
+          let z : is_h st b.one ≡ false = rw y h in
+          simp (e, f, z, and-false, or-false) (count-pick (length st.kinds) b.two (λ q. not (is_h st q)) g.two)
       pick false true e f =
           let y : b.two ≡ p = eqb-true _ _ f in
-          let z : isH st b.two ≡ false = rw y h in
-          simp (e, f, z, and-true, or-false) (count-pick (length st.kinds) b.one (λ q. not (isH st q)) g.one)
+          let z : is_h st b.two ≡ false = rw y h in
+          simp (e, f, z, and-true, or-false) (count-pick (length st.kinds) b.one (λ q. not (is_h st q)) g.one)
       pick false false e f = simp (e, f, and-false) (count_none (length st.kinds) (λ q. false) (λ q l. refl))
 
 -- a count over places of a count over bonds, taken by bonds
-by-bonds : (st : State) (h : ℕ → Bool) (r : ℕ → Bond → Bool) (v : Bond → ℕ)
+by_bonds : (st : State) (h : ℕ → Bool) (r : ℕ → Bond → Bool) (v : Bond → ℕ)
     → ((b : Bond) → Proper st.kinds b → count (each (length st.kinds) (λ p. h p && r p b)) ≡ v b) → All (Proper st.kinds) st.bonds
     → sum (map (λ p. count (map (r p) st.bonds)) (keep h (upto (length st.kinds)))) ≡ sum (map v st.bonds)
 unfolding each
-by-bonds st h r v e a =
+by_bonds st h r v e a =
     sum-swap r (keep h (upto (length st.kinds))) st.bonds
     ∙ ap sum (map-all _ v (λ b g. count-keep h (λ p. r p b) (upto (length st.kinds)) ∙ e b g) st.bonds a)
 
@@ -119,84 +119,84 @@ second ks (b ∷ bs) n a = let x = a.0.one in let y = a.0.two in let d : b.one �
 
 module _ (st : State) (t : Tidy st.kinds st.bonds) where
   -- a heavy atom has as many neighbours as heavy bonds on its place
-  near-count : (p : ℕ) → isH st p ≡ false → count (map (λ q. not (eqb (code_in st.bonds p q) 0)) (heavyPlaces st)) ≡ bondsOn st p
-  unfolding heavyPlaces
+  near-count : (p : ℕ) → is_h st p ≡ false → count (map (λ q. not (eqb (code_in st.bonds p q) 0)) (heavy_places st)) ≡ bonds_on st p
+  unfolding heavy_places
   near-count p h =
-      count-sum (λ q. not (eqb (code_in st.bonds p q) 0)) (heavyPlaces st)
-      ∙ ap sum (map-eq (heavyPlaces st) _ (λ q. count (map (joins p q) st.bonds))
+      count-sum (λ q. not (eqb (code_in st.bonds p q) 0)) (heavy_places st)
+      ∙ ap sum (map-eq (heavy_places st) _ (λ q. count (map (joins p q) st.bonds))
       (λ q m. ap (λ (x : Bool). cond {A = ℕ} x 1 0) (code-joined st.kinds p q st.bonds t.proper) ∙ some_one _ (t.once p q)))
-      ∙ by-bonds st (λ q. not (isH st q)) (joins p) (λ b. cond (on p b && not (toH st b)) 1 0) (λ b g. other-end st b g p h) t.proper
-      ∙ sym (count-sum (λ b. on p b && not (toH st b)) st.bonds)
+      ∙ by_bonds st (λ q. not (is_h st q)) (joins p) (λ b. cond (on p b && not (to_h st b)) 1 0) (λ b g. other_end st b g p h) t.proper
+      ∙ sym (count-sum (λ b. on p b && not (to_h st b)) st.bonds)
 
-  pub folded-size : (folded st).size ≡ heavyAtoms st
-  unfolding folded heavyPlaces each
+  pub folded-size : (folded st).size ≡ heavy_atoms st
+  unfolding folded heavy_places each
   folded-size =
-      length-keep (λ p. not (isH st p)) (upto (length st.kinds))
-      ∙ ap count (each-getD (λ k. not (eqb k 0)) st.kinds 0)
+      length-keep (λ p. not (is_h st p)) (upto (length st.kinds))
+      ∙ ap count (each-get_or (λ k. not (eqb k 0)) st.kinds 0)
 
   -- the place of an atom of the molecule is heavy
-  pub place-heavy : (a : ℕ) → a < (folded st).size → isH st (get_or (heavyPlaces st) a 0) ≡ false
-  unfolding folded heavyPlaces
-  place-heavy a h = not-true _ (of-keep (λ p. not (isH st p)) (upto (length st.kinds)) _ (getD-mem (heavyPlaces st) a 0 h)).1
+  pub place-heavy : (a : ℕ) → a < (folded st).size → is_h st (get_or (heavy_places st) a 0) ≡ false
+  unfolding folded heavy_places
+  place-heavy a h = not-true _ (of_keep (λ p. not (is_h st p)) (upto (length st.kinds)) _ (get_or-mem (heavy_places st) a 0 h)).1
 
-  pub folded-degree : (a : ℕ) → a < (folded st).size → length (neighbours (folded st) a) ≡ bondsOn st (get_or (heavyPlaces st) a 0)
+  pub folded-degree : (a : ℕ) → a < (folded st).size → length (neighbours (folded st) a) ≡ bonds_on st (get_or (heavy_places st) a 0)
   unfolding folded neighbours each
   folded-degree a h =
       length-keep (bonded (folded st) a) (upto (folded st).size)
-      ∙ ap count (each-getD (λ q. not (eqb (code_in st.bonds (get_or (heavyPlaces st) a 0) q) 0)) (heavyPlaces st) 0)
-      ∙ near-count (get_or (heavyPlaces st) a 0) (place-heavy a h)
+      ∙ ap count (each-get_or (λ q. not (eqb (code_in st.bonds (get_or (heavy_places st) a 0) q) 0)) (heavy_places st) 0)
+      ∙ near-count (get_or (heavy_places st) a 0) (place-heavy a h)
 
   double : (f : Bond → Bool) (bs : List Bond) → sum (map (λ b. 2 * cond (f b) 1 0) bs) ≡ 2 * count (map f bs)
-  double f bs = omega (arith, count-sum f bs, sum-map-add bs (λ b. cond (f b) 1 0) (λ b. cond (f b) 1 0) (λ b. 2 * cond (f b) 1 0) (λ b m. omega arith))
+  double f bs = omega (arith, count-sum f bs, sum-map_add bs (λ b. cond (f b) 1 0) (λ b. cond (f b) 1 0) (λ b. 2 * cond (f b) 1 0) (λ b m. omega arith))
 
-  pub folded-bonds : sum (each (folded st).size (λ a. length (neighbours (folded st) a))) ≡ 2 * heavyBonds st
-  unfolding folded heavyPlaces
+  pub folded-bonds : sum (each (folded st).size (λ a. length (neighbours (folded st) a))) ≡ 2 * heavy_bonds st
+  unfolding folded heavy_places
   folded-bonds =
-      sum-eq (folded st).size _ (λ a. bondsOn st (get_or (heavyPlaces st) a 0)) folded-degree
-      ∙ ap sum (each-getD (bondsOn st) (heavyPlaces st) 0)
-      ∙ by-bonds st (λ p. not (isH st p)) (λ p b. on p b && not (toH st b)) (λ b. 2 * cond (not (toH st b)) 1 0) (λ b g. heavy-ends st b g) t.proper
-      ∙ double (λ b. not (toH st b)) st.bonds
+      sum-eq (folded st).size _ (λ a. bonds_on st (get_or (heavy_places st) a 0)) folded-degree
+      ∙ ap sum (each-get_or (bonds_on st) (heavy_places st) 0)
+      ∙ by_bonds st (λ p. not (is_h st p)) (λ p b. on p b && not (to_h st b)) (λ b. 2 * cond (not (to_h st b)) 1 0) (λ b g. heavy-ends st b g) t.proper
+      ∙ double (λ b. not (to_h st b)) st.bonds
 
   -- the bonds to an H
-  h-bonds : sum (each (folded st).size (hydrogens (folded st))) ≡ count (map (toH st) st.bonds)
-  unfolding folded heavyPlaces
-  h-bonds =
-      ap sum (each-getD (hydrogensOn st) (heavyPlaces st) 0)
-      ∙ by-bonds st (λ p. not (isH st p)) (λ p b. on p b && toH st b) (λ b. cond (toH st b) 1 0) (λ b g. h-ends st b g) t.proper
-      ∙ sym (count-sum (toH st) st.bonds)
+  h_bonds : sum (each (folded st).size (hydrogens (folded st))) ≡ count (map (to_h st) st.bonds)
+  unfolding folded heavy_places
+  h_bonds =
+      ap sum (each-get_or (hydrogens_on st) (heavy_places st) 0)
+      ∙ by_bonds st (λ p. not (is_h st p)) (λ p b. on p b && to_h st b) (λ b. cond (to_h st b) 1 0) (λ b g. h_ends st b g) t.proper
+      ∙ sym (count-sum (to_h st) st.bonds)
 
   -- an H has exactly one bond, but for an H alone
   joined-on : (c p : ℕ) → Joined st.bonds c p → (0 < count (map (on c) st.bonds)) × (0 < count (map (on p) st.bonds))
   joined-on c p e =
-      let k : 0 < count (map (joins c p) st.bonds) = some-true-count _ e in
-      let atC = count-map-le st.bonds (joins c p) (on c) (λ b m z. (end_of c p b z).0) in
-      let at_p = count-map-le st.bonds (joins c p) (on p) (λ b m z. (end_of c p b z).1) in
+      let k : 0 < count (map (joins c p) st.bonds) = some-true_count _ e in
+      let at_c = count-map_le st.bonds (joins c p) (on c) (λ b m z. (end_of c p b z).0) in
+      let at_p = count-map_le st.bonds (joins c p) (on p) (λ b m z. (end_of c p b z).1) in
       omega arith
 
-  pub h-once : loneH st ≡ false → (p : ℕ) → p < length st.kinds → isH st p ≡ true → count (map (on p) st.bonds) ≡ 1
-  h-once lone zero h e =
+  pub h_once : lone_h st ≡ false → (p : ℕ) → p < length st.kinds → is_h st p ≡ true → count (map (on p) st.bonds) ≡ 1
+  h_once lone zero h e =
       let two : 1 < length st.kinds = second st.kinds st.bonds (eqb-false _ _ (simp e at lone)) t.proper in
       omega (arith, joined-on 0 1 (first-joined t two), t.leaf 0 e)
-  h-once lone (suc p) h e = let r = t.rooted (suc p) (omega arith) h in omega (arith, joined-on r.0 (suc p) r.2, t.leaf (suc p) e)
+  h_once lone (suc p) h e = let r = t.rooted (suc p) (omega arith) h in omega (arith, joined-on r.0 (suc p) r.2, t.leaf (suc p) e)
 
   -- so the bonds to an H are as many as the H
-  pub h-count : loneH st ≡ false → count (map (toH st) st.bonds) ≡ hydrogenAtoms st
+  pub h_count : lone_h st ≡ false → count (map (to_h st) st.bonds) ≡ hydrogen_atoms st
   unfolding each
-  h-count lone =
-      let hs = keep (isH st) (upto (length st.kinds)) in
-      count-sum (toH st) st.bonds
-      ∙ sym (by-bonds st (isH st) on (λ b. cond (toH st b) 1 0) (λ b g. hs-ends st b g) t.proper)
+  h_count lone =
+      let hs = keep (is_h st) (upto (length st.kinds)) in
+      count-sum (to_h st) st.bonds
+      ∙ sym (by_bonds st (is_h st) on (λ b. cond (to_h st b) 1 0) (λ b g. hs_ends st b g) t.proper)
       ∙ ap sum (map-eq hs _ (λ p. 1) (λ p m.
-      let w = of-keep (isH st) (upto (length st.kinds)) p m in
-      h-once lone p (of-upto (length st.kinds) p w.0) w.1))
-      ∙ sum-map-const hs 1
+      let w = of_keep (is_h st) (upto (length st.kinds)) p m in
+      h_once lone p (of_upto (length st.kinds) p w.0) w.1))
+      ∙ sum-map_const hs 1
       ∙ mul-one (length hs)
-      ∙ length-keep (isH st) (upto (length st.kinds))
-      ∙ ap count (each-getD (λ k. eqb k 0) st.kinds 0)
+      ∙ length-keep (is_h st) (upto (length st.kinds))
+      ∙ ap count (each-get_or (λ k. eqb k 0) st.kinds 0)
 
-  pub folded-hydrogens : loneH st ≡ false → sum (each (folded st).size (hydrogens (folded st))) ≡ hydrogenAtoms st
-  folded-hydrogens lone = h-bonds ∙ h-count lone
+  pub folded-hydrogens : lone_h st ≡ false → sum (each (folded st).size (hydrogens (folded st))) ≡ hydrogen_atoms st
+  folded-hydrogens lone = h_bonds ∙ h_count lone
 
   -- every bond is to an H or is one of the molecule's
-  pub bonds-count : loneH st ≡ false → length st.bonds ≡ hydrogenAtoms st + heavyBonds st
-  bonds-count lone = omega (arith, count-not (toH st) st.bonds, h-count lone)
+  pub bonds-count : lone_h st ≡ false → length st.bonds ≡ hydrogen_atoms st + heavy_bonds st
+  bonds-count lone = omega (arith, count-not (to_h st) st.bonds, h_count lone)

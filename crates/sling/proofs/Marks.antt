@@ -5,9 +5,9 @@ use Prim.Native.Nat.{ℕ, zero, suc, ◌+◌}
 use native.Mathlib.Omega.{arith}
 use lib.Dec.{eqb, ltb}
 use Rattle.lists.proofs.All.{All}
-use Rattle.molecule.specs.Kinds.{kindOfSymbol}
+use Rattle.molecule.specs.Kinds.{kind_of_symbol}
 use Rattle.sling.specs.Items.{Target, Item, atom, reference, ring}
-use Rattle.sling.specs.Scanned.{Scanned, got, broken, Number, number, none, isDigit, isCapital, isSmall, smallFirst, number_at, placed, stepped, target, bracketed, body, mark_of, scan, token, tokens}
+use Rattle.sling.specs.Scanned.{Scanned, got, broken, Number, number, none, is_digit, is_capital, is_small, small_first, number_at, placed, stepped, target, bracketed, body, mark_of, scan, token, tokens}
 use Rattle.sling.specs.Faults.{code_of}
 use Rattle.sling.proofs.Walks.{Marked, MarkedToken}
 
@@ -39,7 +39,7 @@ unfolding bracketed
 bracketed-marked [] k m h = tt
 bracketed-marked (c ∷ []) k m h = tt
 bracketed-marked (c ∷ s ∷ []) k m h = tt
-bracketed-marked (c ∷ s ∷ e ∷ l) k m h = either (isCapital c && isSmall s && eqb e 41) (got (atom m (kindOfSymbol (c ∷ s ∷ []))) (k + 4)) broken h tt
+bracketed-marked (c ∷ s ∷ e ∷ l) k m h = either (is_capital c && is_small s && eqb e 41) (got (atom m (kind_of_symbol (c ∷ s ∷ []))) (k + 4)) broken h tt
 
 body-marked : (l : List ℕ) (k m : ℕ) → Marked m → MarkedScan (body l k m)
 unfolding body
@@ -47,10 +47,10 @@ body-marked [] k m h = tt
 body-marked (b ∷ bs) k m h =
     either (eqb b 47) _ _ (target-marked bs (suc k) (ring m) (λ t. h))
     (either (eqb b 40) _ _ (bracketed-marked bs k m h)
-    (either (isCapital b && not (smallFirst bs)) (got (atom m (kindOfSymbol (b ∷ []))) (suc k)) broken h tt))
+    (either (is_capital b && not (small_first bs)) (got (atom m (kind_of_symbol (b ∷ []))) (suc k)) broken h tt))
 
-mark-marked : (b : ℕ) → Marked (mark_of b)
-mark-marked b = pick (eqb b 61) (eqb b 42) (eqb b 60)
+mark_marked : (b : ℕ) → Marked (mark_of b)
+mark_marked b = pick (eqb b 61) (eqb b 42) (eqb b 60)
   where
     pick : (x y z : Bool) → Marked (cond x 2 (cond y 3 (cond z 4 1)))
     pick true y z = omega arith
@@ -62,9 +62,9 @@ scan-marked : (l : List ℕ) → MarkedScan (scan l)
 unfolding scan
 scan-marked [] = tt
 scan-marked (b ∷ bs) =
-    either (ltb 1 (mark_of b)) _ _ (body-marked bs 1 (mark_of b) (mark-marked b))
+    either (ltb 1 (mark_of b)) _ _ (body-marked bs 1 (mark_of b) (mark_marked b))
     (either (eqb b 43) _ _ (placed-marked (number_at bs) 1 reference (λ t. omega arith))
-    (either (isDigit b || eqb b 45) _ _ (target-marked (b ∷ bs) 0 reference (λ t. omega arith)) (body-marked (b ∷ bs) 0 1 (omega arith))))
+    (either (is_digit b || eqb b 45) _ _ (target-marked (b ∷ bs) 0 reference (λ t. omega arith)) (body-marked (b ∷ bs) 0 1 (omega arith))))
 
 pub tokens-marked : (l : List ℕ) (k o : ℕ) → All MarkedToken (tokens l k o)
 unfolding tokens

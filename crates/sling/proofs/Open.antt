@@ -2,11 +2,11 @@
 use Rattle.molecule.proofs.Open.{molecule}
 use Rattle.sling.specs.Scanned.{digits, valued, number_at, target, bracketed, body, scan, tokens}
 use Rattle.sling.specs.Reading.{climb, after}
-use Rattle.sling.specs.Faults.{itemFault, run}
-use Rattle.sling.specs.Folded.{heavyPlaces, folded, readText}
-use Rattle.sling.specs.Walk.{serve, put, close, putHs, trace, traces, finish, written}
-use Rattle.sling.specs.Printed.{decimal, itemBytes, bytes, nameBytes}
+use Rattle.sling.specs.Faults.{item_fault, run}
+use Rattle.sling.specs.Folded.{heavy_places, folded, read_text}
+use Rattle.sling.specs.Walk.{serve, put, close, put_hs, trace, traces, finish, written}
+use Rattle.sling.specs.Printed.{decimal, item_bytes, bytes, name_bytes}
 
 unfoldable pub sling : Unit {0}
-unfolding molecule digits valued number_at target bracketed body scan tokens climb after itemFault run heavyPlaces folded readText serve put close putHs trace traces finish written decimal itemBytes bytes nameBytes
+unfolding molecule digits valued number_at target bracketed body scan tokens climb after item_fault run heavy_places folded read_text serve put close put_hs trace traces finish written decimal item_bytes bytes name_bytes
 sling = tt

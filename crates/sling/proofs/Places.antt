@@ -10,8 +10,8 @@ use lib.Dec.{eqb}
 use borrow.Author.Tests.{eq-eqb, lt-ltb, ltb-true, eqb-true, ne_eqb}
 use Rattle.lists.specs.Tests.{some}
 use Rattle.lists.proofs.Tested.{some-pass, some-snoc}
-use Rattle.lists.proofs.Booleans.{or-either}
-use Rattle.lists.proofs.Members.{getD-mem}
+use Rattle.lists.proofs.Booleans.{or_either}
+use Rattle.lists.proofs.Members.{get_or-mem}
 use Rattle.lists.proofs.Found.{find-passes, find-append, find-snoc, find-some}
 use Rattle.sling.specs.Walk.{place_in}
 
@@ -40,20 +40,20 @@ on-new l s = some-on (l ++ (s ∷ [])) s (some-snoc (λ x. eqb x s) l s ∙ rw (
 pub on-cases : (l : List ℕ) (s x : ℕ) → On (l ++ (s ∷ [])) x → On l x ⊎ (x ≡ s)
 on-cases l s x h =
     ⊎_elim (λ e. inl (some-on l x e)) (λ e. inr (sym (eqb-true s x e)))
-    (or-either _ _ (sym (some-snoc (λ y. eqb y x) l s) ∙ on_some (l ++ (s ∷ [])) x h))
+    (or_either _ _ (sym (some-snoc (λ y. eqb y x) l s) ∙ on_some (l ++ (s ∷ [])) x h))
 
 -- what stands at the place of a rank is the rank, so that two ranks do not share a place
-pub rank-at : (l : List ℕ) (r : ℕ) → On l r → get_or l (place_in l r) 0 ≡ r
-rank-at l r h = eqb-true _ r (find-passes (λ x. eqb x r) l 0 h)
+pub rank_at : (l : List ℕ) (r : ℕ) → On l r → get_or l (place_in l r) 0 ≡ r
+rank_at l r h = eqb-true _ r (find-passes (λ x. eqb x r) l 0 h)
 
 pub places-apart : (l : List ℕ) (r s : ℕ) → On l r → On l s → place_in l r ≡ place_in l s → r ≡ s
-places-apart l r s hr hs e = sym (rank-at l r hr) ∙ ap (λ (p : ℕ). get_or l p 0) e ∙ rank-at l s hs
+places-apart l r s hr hs e = sym (rank_at l r hr) ∙ ap (λ (p : ℕ). get_or l p 0) e ∙ rank_at l s hs
 
 pub places-differ : (l : List ℕ) (r s : ℕ) → On l r → On l s → (r ≡ s → ⊥) → eqb (place_in l r) (place_in l s) ≡ false
 places-differ l r s hr hs ne = ne_eqb _ _ (λ e. ne (places-apart l r s hr hs e))
 
-pub mem-on : (l : List ℕ) (r : ℕ) → Memᴰ r l → On l r
-mem-on l r m = some-on l r (some-pass (λ x. eqb x r) l r m (eq-eqb r r refl))
+pub mem_on : (l : List ℕ) (r : ℕ) → Memᴰ r l → On l r
+mem_on l r m = some-on l r (some-pass (λ x. eqb x r) l r m (eq-eqb r r refl))
 
 pub on-mem : (l : List ℕ) (r : ℕ) → On l r → Memᴰ r l
-on-mem l r h = subst (λ (x : ℕ). Memᴰ x l) (rank-at l r h) (getD-mem l (place_in l r) 0 h)
+on-mem l r h = subst (λ (x : ℕ). Memᴰ x l) (rank_at l r h) (get_or-mem l (place_in l r) 0 h)

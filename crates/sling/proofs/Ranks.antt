@@ -13,8 +13,8 @@ use Rattle.lists.proofs.Booleans.{cond-le}
 use Rattle.lists.proofs.All.{All, all_snoc, all_get_d}
 use Rattle.lists.proofs.Passed.{count-snoc, count-take}
 use Rattle.lists.proofs.Found.{find-some}
-use Rattle.lists.proofs.Tested.{some-false-count}
-use Rattle.sling.proofs.Tidy.{hAt}
+use Rattle.lists.proofs.Tested.{some-false_count}
+use Rattle.sling.proofs.Tidy.{h_at}
 use Rattle.molecule.specs.Molecule.{Molecule}
 use Rattle.molecule.proofs.Sound.{Sound}
 use Rattle.sling.specs.Walk.{kind_at, place_in, written}
@@ -30,7 +30,7 @@ pub record Ranked (W : Molecule) (l : List ℕ) : Type 0 where
 count-absent : (l : List ℕ) (r : ℕ) → (On l r → ⊥) → count (map (λ x. eqb x r) l) ≡ 0
 count-absent l r n =
     let far : length l ≤ place_in l r = omega arith in
-    some-false-count (map (λ x. eqb x r) l) (sym (find-some (λ x. eqb x r) l) ∙ le-ltb _ _ far)
+    some-false_count (map (λ x. eqb x r) l) (sym (find-some (λ x. eqb x r) l) ∙ le-ltb _ _ far)
 
 ranked-snoc : (W : Molecule) (l : List ℕ) (s : ℕ) → s ≤ W.size → (0 < s → On l s → ⊥) → Ranked W l → Ranked W (l ++ (s ∷ []))
 ranked-snoc W l s h n t = record { once = λ r p. pick r p (eqb s r) refl; high = all_snoc (λ x. x ≤ W.size) l s t.high h }
@@ -74,5 +74,5 @@ kind-zero W S zero h = refl
 kind-zero W S (suc a) h =
     ne_eqb (kind_at W (suc a)) 0 (λ e. omega (arith, kind-low W S (suc a) (record { low = omega arith; high = h }))) ∙ sym (ne_eqb (suc a) 0 (λ e. omega arith))
 
-pub reader-zero : (W : Molecule) → Sound W → (l : List ℕ) → All (λ x. x ≤ W.size) l → (p : ℕ) → hAt (map (kind_at W) l) p ≡ hAt l p
-reader-zero W S l h p = ap (λ (k : ℕ). eqb k 0) (kind-at W l p) ∙ kind-zero W S (get_or l p 0) (all_get_d (λ x. x ≤ W.size) l 0 h (omega arith) p)
+pub reader_zero : (W : Molecule) → Sound W → (l : List ℕ) → All (λ x. x ≤ W.size) l → (p : ℕ) → h_at (map (kind_at W) l) p ≡ h_at l p
+reader_zero W S l h p = ap (λ (k : ℕ). eqb k 0) (kind-at W l p) ∙ kind-zero W S (get_or l p 0) (all_get_d (λ x. x ≤ W.size) l 0 h (omega arith) p)

@@ -14,14 +14,14 @@ use Rattle.lists.specs.Upto.{each}
 use Rattle.lists.specs.Tests.{count, some}
 use Rattle.lists.proofs.Tested.{some-true, some-snoc}
 use Rattle.lists.proofs.Counts.{count-le, count-lt}
-use Rattle.lists.proofs.All.{All, all_map, all_snoc, all-mem}
+use Rattle.lists.proofs.All.{All, all_map, all_snoc, all_mem}
 use Rattle.molecule.specs.Bonds.{Bond, joins}
 use Rattle.molecule.specs.Molecule.{Molecule}
 use Rattle.molecule.proofs.BondLists.{joins-ends}
-use Rattle.sling.specs.Walk.{code_at, Written, place_in, is_written, isTraced}
+use Rattle.sling.specs.Walk.{code_at, Written, place_in, is_written, is_traced}
 use Rattle.sling.proofs.Tidy.{bond}
 use Rattle.sling.proofs.Places.{On, place-more, on-more, on-new}
-use Rattle.sling.proofs.Strokes.{Near, next_at, back, Keeps, keeps-put}
+use Rattle.sling.proofs.Strokes.{Near, next_at, back, Keeps, keeps_put}
 
 -- the ends of the bonds are places
 abbrev pub Within : ℕ → Bond → Type 0
@@ -38,12 +38,12 @@ inside-put l bs s p m h k =
 
 pub inside-keeps : (W : Molecule) → Keeps W Inside
 inside-keeps W =
-    keeps-put W Inside (λ r s k m w h i. inside-put w.ranks w.bonds s (place_in w.ranks r) m i h)
+    keeps_put W Inside (λ r s k m w h i. inside-put w.ranks w.bonds s (place_in w.ranks r) m i h)
     (λ r s w n h k u i. all_snoc (Within (length w.ranks)) w.bonds _ i (h, k))
 
 -- the bond of two ranks is traced
 abbrev pub Traced : Written → ℕ → ℕ → Type 0
-Traced w r s = On w.ranks r × On w.ranks s × (isTraced w r s ≡ true)
+Traced w r s = On w.ranks r × On w.ranks s × (is_traced w r s ≡ true)
 
 traced-more : (l xs : List ℕ) (bs : List Bond) (b : Bond) (r s : ℕ) → On l r → On l s → some (map (joins (place_in l r) (place_in l s)) bs) ≡ true
     → some (map (joins (place_in (l ++ xs) r) (place_in (l ++ xs) s)) (bs ++ (b ∷ []))) ≡ true
@@ -52,7 +52,7 @@ traced-more l xs bs b r s hr hs e =
 
 pub traced-keeps : (W : Molecule) (x y : ℕ) → Keeps W (λ w. Traced w x y)
 traced-keeps W x y =
-    keeps-put W (λ w. Traced w x y)
+    keeps_put W (λ w. Traced w x y)
     (λ r s k m w h t.
     (on-more w.ranks (s ∷ []) x t.0, on-more w.ranks (s ∷ []) y t.1, traced-more w.ranks (s ∷ []) w.bonds _ x y t.0 t.1 t.2))
     (λ r s w n h k u t. (t.0, t.1, some-snoc (joins (place_in w.ranks x) (place_in w.ranks y)) w.bonds _ ∙ rw t.2))
@@ -64,22 +64,22 @@ unwritten n l = count (each n (λ a. not (ltb (place_in l (suc a)) (length l))))
 not_written : (l : List ℕ) (r : ℕ) → not (ltb (place_in l r) (length l)) ≡ true → On l r → ⊥
 not_written l r e h = true≢false (sym (rw (lt-ltb _ _ h) at e))
 
-still-not : (l xs : List ℕ) (r : ℕ) → not (ltb (place_in (l ++ xs) r) (length (l ++ xs))) ≡ true → not (ltb (place_in l r) (length l)) ≡ true
-still-not l xs r e = pick (ltb (place_in l r) (length l)) refl
+still_not : (l xs : List ℕ) (r : ℕ) → not (ltb (place_in (l ++ xs) r) (length (l ++ xs))) ≡ true → not (ltb (place_in l r) (length l)) ≡ true
+still_not l xs r e = pick (ltb (place_in l r) (length l)) refl
   where
     pick : (b : Bool) → ltb (place_in l r) (length l) ≡ b → not (ltb (place_in l r) (length l)) ≡ true
     pick true f = absurd (not_written (l ++ xs) r e (on-more l xs r (ltb-true _ _ f)))
     pick false f = ap not f
 
-unwritten-more : (n : ℕ) (l xs : List ℕ) → unwritten n (l ++ xs) ≤ unwritten n l
+unwritten_more : (n : ℕ) (l xs : List ℕ) → unwritten n (l ++ xs) ≤ unwritten n l
 unfolding unwritten
-unwritten-more n l xs = count-le n _ _ (λ a h e. still-not l xs (suc a) e)
+unwritten_more n l xs = count-le n _ _ (λ a h e. still_not l xs (suc a) e)
 
-unwritten-put : (n s : ℕ) (l : List ℕ) → 0 < s → s ≤ n → (On l s → ⊥) → unwritten n (l ++ (s ∷ [])) < unwritten n l
+unwritten_put : (n s : ℕ) (l : List ℕ) → 0 < s → s ≤ n → (On l s → ⊥) → unwritten n (l ++ (s ∷ [])) < unwritten n l
 unfolding unwritten
-unwritten-put n zero l p q h = absurd (not-suc-le-zero p)
-unwritten-put n (suc a) l p q h =
-    count-lt n _ _ (λ b k e. still-not l (suc a ∷ []) (suc b) e) a q (ap not (lt-ltb _ _ (on-new l (suc a))))
+unwritten_put n zero l p q h = absurd (not-suc-le-zero p)
+unwritten_put n (suc a) l p q h =
+    count-lt n _ _ (λ b k e. still_not l (suc a ∷ []) (suc b) e) a q (ap not (lt-ltb _ _ (on-new l (suc a))))
     (let far : length l ≤ place_in l (suc a) = omega arith in ap not (le-ltb _ _ far))
 
 -- the atom of rank r can be served to a depth d
@@ -88,21 +88,21 @@ pub record Ready (W : Molecule) (d r : ℕ) (w : Written) : Type 0 where
   pub inside : Inside w
   pub few : unwritten W.size w.ranks < d
 
-pub ready-keeps : (W : Molecule) (d x : ℕ) → Keeps W (Ready W d x)
-ready-keeps W d x =
-    keeps-put W (Ready W d x)
+pub ready_keeps : (W : Molecule) (d x : ℕ) → Keeps W (Ready W d x)
+ready_keeps W d x =
+    keeps_put W (Ready W d x)
     (λ r s k m w h t.
     record {
       on = on-more w.ranks (s ∷ []) x t.on;
       inside = inside-put w.ranks w.bonds s (place_in w.ranks r) m t.inside h;
-      few = omega (arith, t.few, unwritten-more W.size w.ranks (s ∷ []));
+      few = omega (arith, t.few, unwritten_more W.size w.ranks (s ∷ []));
     })
     (λ r s w n h k u t. record { on = t.on; inside = (inside-keeps W).back r s w n h k u t.inside; few = t.few })
 
-pub traced-on : (w : Written) (r s : ℕ) → Inside w → isTraced w r s ≡ true → On w.ranks s
+pub traced-on : (w : Written) (r s : ℕ) → Inside w → is_traced w r s ≡ true → On w.ranks s
 traced-on w r s i e =
     let b = some-true (joins (place_in w.ranks r) (place_in w.ranks s)) w.bonds e in
-    let x = all-mem (Within (length w.ranks)) w.bonds i b.0 b.1 in
+    let x = all_mem (Within (length w.ranks)) w.bonds i b.0 b.1 in
     ⊎_elim (λ z. let y : b.0.two ≡ place_in w.ranks s = z.1 in omega arith) (λ z. let y : b.0.one ≡ place_in w.ranks s = z.0 in omega arith)
     (joins-ends _ _ b.0 b.2)
 
@@ -115,5 +115,5 @@ next-ready W d r s w n t k =
     record {
       on = on-new w.ranks s;
       inside = inside-put w.ranks w.bonds s (place_in w.ranks r) (code_at W r s) t.inside t.on;
-      few = omega (arith, t.few, unwritten-put W.size s w.ranks n.two.low n.two.high k);
+      few = omega (arith, t.few, unwritten_put W.size s w.ranks n.two.low n.two.high k);
     }

@@ -3,8 +3,8 @@ use mathlib.Core.List.{List, [], ◌∷◌, map}
 use mathlib.Core.Path.{◌≡◌, refl}
 use Prim.Native.String.{String}
 use Rattle.lists.specs.Quoted.{bytes_of, hex}
-use Rattle.molecule.specs.Judged.{moleculeOf}
-use Rattle.sling.specs.Printed.{nameBytes}
+use Rattle.molecule.specs.Judged.{molecule_of}
+use Rattle.sling.specs.Printed.{name_bytes}
 use Rattle.sling.proofs.Open.{sling}
 
 record Case : Type 0 where
@@ -25,6 +25,6 @@ cases =
     ∷ record { card = "01 0008 0601 0601 0601 0700 02 000c 000102 000201 010301 020302"; name = "CH0=CH2N=CH5/0" }
     ∷ []
 
-names : map (λ (c : Case). nameBytes (moleculeOf (hex c.card))) cases ≡ map (λ (c : Case). bytes_of c.name) cases
+names : map (λ (c : Case). name_bytes (molecule_of (hex c.card))) cases ≡ map (λ (c : Case). bytes_of c.name) cases
 unfolding sling cases
 names = refl

@@ -12,37 +12,37 @@ decimal n =
     (cond (ltb n 100) ((48 + n / 10) ∷ (48 + n % 10) ∷ []) ((48 + n / 100) ∷ (48 + n / 10 % 10) ∷ (48 + n % 10) ∷ []))
 
 -- "`=` double, `*` triple, `<` delocalised, none for single"
-abbrev pub markBytes : ℕ → List ℕ
-markBytes m = cond (eqb m 2) (61 ∷ []) (cond (eqb m 3) (42 ∷ []) (cond (eqb m 4) (60 ∷ []) []))
+abbrev pub mark_bytes : ℕ → List ℕ
+mark_bytes m = cond (eqb m 2) (61 ∷ []) (cond (eqb m 3) (42 ∷ []) (cond (eqb m 4) (60 ∷ []) []))
 
 -- "a capital letter [..] or a two-letter symbol in parentheses"
-abbrev pub symbolBytes : ℕ → List ℕ
-symbolBytes k = cond (eqb (length (symbol_of k)) 1) (symbol_of k) (40 ∷ (symbol_of k ++ (41 ∷ [])))
+abbrev pub symbol_bytes : ℕ → List ℕ
+symbol_bytes k = cond (eqb (length (symbol_of k)) 1) (symbol_of k) (40 ∷ (symbol_of k ++ (41 ∷ [])))
 
-abbrev pub targetBytes : Target → List ℕ
-targetBytes (at p) = decimal p
-targetBytes (up k) = 45 ∷ decimal k
+abbrev pub target_bytes : Target → List ℕ
+target_bytes (at p) = decimal p
+target_bytes (up k) = 45 ∷ decimal k
 
 -- "with `+` only if a digit stands before it"
 abbrev pub plus : Bool → Target → List ℕ
 plus d (at p) = cond d (43 ∷ []) []
 plus d (up k) = []
 
-unfoldable pub itemBytes : Bool → Item → List ℕ
-itemBytes d (atom m k) = markBytes m ++ symbolBytes k
-itemBytes d (reference t) = plus d t ++ targetBytes t
-itemBytes d (ring m t) = markBytes m ++ 47 ∷ targetBytes t
+unfoldable pub item_bytes : Bool → Item → List ℕ
+item_bytes d (atom m k) = mark_bytes m ++ symbol_bytes k
+item_bytes d (reference t) = plus d t ++ target_bytes t
+item_bytes d (ring m t) = mark_bytes m ++ 47 ∷ target_bytes t
 
-abbrev pub endsInDigit : Item → Bool
-endsInDigit (atom m k) = false
-endsInDigit (reference t) = true
-endsInDigit (ring m t) = true
+abbrev pub ends_in_digit : Item → Bool
+ends_in_digit (atom m k) = false
+ends_in_digit (reference t) = true
+ends_in_digit (ring m t) = true
 
 -- the first argument says whether a digit stands before
 unfoldable pub bytes : Bool → List Item → List ℕ
 bytes d [] = []
-bytes d (i ∷ is) = itemBytes d i ++ bytes (endsInDigit i) is
+bytes d (i ∷ is) = item_bytes d i ++ bytes (ends_in_digit i) is
 
 -- the name of a molecule whose atom r - 1 has rank r
-unfoldable pub nameBytes : Molecule → List ℕ
-nameBytes W = bytes false (written W).items
+unfoldable pub name_bytes : Molecule → List ℕ
+name_bytes W = bytes false (written W).items

@@ -47,15 +47,15 @@ after st (atom m k) =
 after st (reference t) = record { kinds = st.kinds; ups = st.ups; bonds = st.bonds; cursor = place_of st t }
 after st (ring m t) = record { kinds = st.kinds; ups = st.ups; bonds = drawn st (place_of st t) m; cursor = place_of st t }
 
-abbrev pub isH : State → ℕ → Bool
-isH st p = eqb (get_or st.kinds p 0) 0
+abbrev pub is_h : State → ℕ → Bool
+is_h st p = eqb (get_or st.kinds p 0) 0
 
 -- "it is folded into that atom's hydrogens": a bond to an H counts as a hydrogen, any other as a bond
-abbrev pub toH : State → Bond → Bool
-toH st b = isH st b.one || isH st b.two
+abbrev pub to_h : State → Bond → Bool
+to_h st b = is_h st b.one || is_h st b.two
 
-abbrev pub hydrogensOn : State → ℕ → ℕ
-hydrogensOn st p = count (map (λ b. on p b && toH st b) st.bonds)
+abbrev pub hydrogens_on : State → ℕ → ℕ
+hydrogens_on st p = count (map (λ b. on p b && to_h st b) st.bonds)
 
-abbrev pub bondsOn : State → ℕ → ℕ
-bondsOn st p = count (map (λ b. on p b && not (toH st b)) st.bonds)
+abbrev pub bonds_on : State → ℕ → ℕ
+bonds_on st p = count (map (λ b. on p b && not (to_h st b)) st.bonds)

@@ -1,6 +1,6 @@
 -- Document 01, "The text": "Items, left to right." A text is first cut into items.
 use Rattle.std.specs.Prelude.{Bool, false, cond, not, ◌&&◌, ◌||◌, List, [], ◌∷◌, ℕ, zero, suc, ◌+◌, ◌-◌, ◌*◌, eqb, leb, ltb}
-use Rattle.molecule.specs.Kinds.{kindOfSymbol}
+use Rattle.molecule.specs.Kinds.{kind_of_symbol}
 use Rattle.sling.specs.Items.{Target, at, up, Item, atom, reference, ring}
 
 -- an item and the number of its bytes
@@ -12,21 +12,21 @@ pub data Number : Type 0 where
   number : (value bytes : ℕ) → Number
   none : Number
 
-abbrev pub isDigit : ℕ → Bool
-isDigit b = leb 48 b && leb b 57
+abbrev pub is_digit : ℕ → Bool
+is_digit b = leb 48 b && leb b 57
 
-abbrev pub isCapital : ℕ → Bool
-isCapital b = leb 65 b && leb b 90
+abbrev pub is_capital : ℕ → Bool
+is_capital b = leb 65 b && leb b 90
 
-abbrev pub isSmall : ℕ → Bool
-isSmall b = leb 97 b && leb b 122
+abbrev pub is_small : ℕ → Bool
+is_small b = leb 97 b && leb b 122
 
 -- "A number is the longest run of digits"
 unfoldable pub digits : List ℕ → List ℕ
 digits [] = []
 digits (b ∷ bs) =
     let more = b ∷ digits bs in
-    cond (isDigit b) more []
+    cond (is_digit b) more []
 
 -- "1 to 3 digits, no leading zero except 0 itself"
 unfoldable pub valued : List ℕ → Number
@@ -55,9 +55,9 @@ unfoldable pub target : List ℕ → ℕ → (Target → Item) → Scanned
 target [] k f = broken
 target (b ∷ bs) k f = cond (eqb b 45) (stepped (number_at bs) (suc k) f) (placed (number_at (b ∷ bs)) k f)
 
-abbrev pub smallFirst : List ℕ → Bool
-smallFirst [] = false
-smallFirst (b ∷ bs) = isSmall b
+abbrev pub small_first : List ℕ → Bool
+small_first [] = false
+small_first (b ∷ bs) = is_small b
 
 -- "or a two-letter symbol in parentheses, capital then small": what follows the `(`
 unfoldable pub bracketed : List ℕ → ℕ → ℕ → Scanned
@@ -65,7 +65,7 @@ bracketed [] k m = broken
 bracketed (c ∷ []) k m = broken
 bracketed (c ∷ s ∷ []) k m = broken
 bracketed (c ∷ s ∷ e ∷ l) k m =
-    cond (isCapital c && isSmall s && eqb e 41) (got (atom m (kindOfSymbol (c ∷ s ∷ []))) (k + 4)) broken
+    cond (is_capital c && is_small s && eqb e 41) (got (atom m (kind_of_symbol (c ∷ s ∷ []))) (k + 4)) broken
 
 -- An atom or a ring bond after its mark of k bytes. "A capital outside parentheses with a small letter directly after it is one broken item"
 unfoldable pub body : List ℕ → ℕ → ℕ → Scanned
@@ -73,7 +73,7 @@ body [] k m = broken
 body (b ∷ bs) k m =
     cond (eqb b 47) (target bs (suc k) (ring m))
     (cond (eqb b 40) (bracketed bs k m)
-    (cond (isCapital b && not (smallFirst bs)) (got (atom m (kindOfSymbol (b ∷ []))) (suc k)) broken))
+    (cond (is_capital b && not (small_first bs)) (got (atom m (kind_of_symbol (b ∷ []))) (suc k)) broken))
 
 -- "`=` double, `*` triple, `<` delocalised, none for single"
 abbrev pub mark_of : ℕ → ℕ
@@ -85,7 +85,7 @@ scan [] = broken
 scan (b ∷ bs) =
     cond (ltb 1 (mark_of b)) (body bs 1 (mark_of b))
     (cond (eqb b 43) (placed (number_at bs) 1 reference)
-    (cond (isDigit b || eqb b 45) (target (b ∷ bs) 0 reference) (body (b ∷ bs) 0 1)))
+    (cond (is_digit b || eqb b 45) (target (b ∷ bs) 0 reference) (body (b ∷ bs) 0 1)))
 
 -- An item with the offset of its first byte. Nothing is cut off behind a broken item.
 pub data Token : Type 0 where

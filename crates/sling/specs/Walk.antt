@@ -10,13 +10,13 @@ abbrev pub kind_at : Molecule → ℕ → ℕ
 kind_at W zero = 0
 kind_at W (suc a) = kind W a
 
-abbrev pub hydrogensAt : Molecule → ℕ → ℕ
-hydrogensAt W zero = 0
-hydrogensAt W (suc a) = hydrogens W a
+abbrev pub hydrogens_at : Molecule → ℕ → ℕ
+hydrogens_at W zero = 0
+hydrogens_at W (suc a) = hydrogens W a
 
-abbrev pub neighboursAt : Molecule → ℕ → List ℕ
-neighboursAt W zero = []
-neighboursAt W (suc a) = map suc (neighbours W a)
+abbrev pub neighbours_at : Molecule → ℕ → List ℕ
+neighbours_at W zero = []
+neighbours_at W (suc a) = map suc (neighbours W a)
 
 abbrev pub code_at : Molecule → ℕ → ℕ → ℕ
 code_at W (suc a) (suc b) = W.code a b
@@ -37,8 +37,8 @@ place_in l r = find (λ x. eqb x r) l
 abbrev pub is_written : Written → ℕ → Bool
 is_written w r = ltb (place_in w.ranks r) (length w.ranks)
 
-abbrev pub isTraced : Written → ℕ → ℕ → Bool
-isTraced w r s = some (map (joins (place_in w.ranks r) (place_in w.ranks s)) w.bonds)
+abbrev pub is_traced : Written → ℕ → ℕ → Bool
+is_traced w r s = some (map (joins (place_in w.ranks r) (place_in w.ranks s)) w.bonds)
 
 -- "Whenever the cursor isn't at the atom being served, the atom's place is written first"; "Only non-negative places are used."
 unfoldable pub serve : ℕ → Written → Written
@@ -68,16 +68,16 @@ close s m w =
     }
 
 -- "then its hydrogens, each H an atom"
-unfoldable pub putHs : ℕ → ℕ → Written → Written
-putHs zero r w = w
-putHs (suc h) r w = putHs h r (put 0 0 1 (serve r w))
+unfoldable pub put_hs : ℕ → ℕ → Written → Written
+put_hs zero r w = w
+put_hs (suc h) r w = put_hs h r (put 0 0 1 (serve r w))
 
 -- "A neighbour not yet written gets mark and atom, and is itself finished first."
 unfoldable pub trace : (ℕ → Written → Written) → Molecule → ℕ → ℕ → Written → Written
 trace finish W r s w =
     let onward = finish s (put s (kind_at W s) (code_at W r s) (serve r w)) in
     let back = close s (code_at W r s) (serve r w) in
-    cond (isTraced w r s) w (cond (is_written w s) back onward)
+    cond (is_traced w r s) w (cond (is_written w s) back onward)
 
 -- "then, by ascending rank, each neighbour whose bond isn't yet traced"
 unfoldable pub traces : (ℕ → Written → Written) → Molecule → ℕ → List ℕ → Written → Written
@@ -87,7 +87,7 @@ traces finish W r (s ∷ l) w = traces finish W r l (trace finish W r s w)
 -- What follows an atom's symbol. The first number bounds how deep atoms hang from each other: no deeper than there are atoms.
 unfoldable pub finish : ℕ → Molecule → ℕ → Written → Written
 finish zero W r w = w
-finish (suc d) W r w = traces (finish d W) W r (neighboursAt W r) (putHs (hydrogensAt W r) r w)
+finish (suc d) W r w = traces (finish d W) W r (neighbours_at W r) (put_hs (hydrogens_at W r) r w)
 
 -- "Start at rank 1. To write an atom: symbol"
 abbrev pub first : Molecule → Written

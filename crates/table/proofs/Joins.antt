@@ -10,9 +10,9 @@ use borrow.Author.Tests.{ne_eqb, eqb-true}
 use Rattle.molecule.specs.Bonds.{Bond, on, joins}
 use Rattle.molecule.specs.Molecule.{Molecule, neighbours}
 use Rattle.table.specs.declared.Table.{Table}
-use Rattle.table.specs.Arrays.{Arrays, Tidy, asMolecule}
-use Rattle.table.specs.Changes.{bondOf, RowArrays, RoomFor, BondPut}
-use Rattle.table.proofs.Halves.{rows_of, withRows, HalfJoinable, HalfJoined, half-roomy, half}
+use Rattle.table.specs.Arrays.{Arrays, Tidy, as_molecule}
+use Rattle.table.specs.Changes.{bond_of, RowArrays, RoomFor, BondPut}
+use Rattle.table.proofs.Halves.{rows_of, with_rows, HalfJoinable, HalfJoined, half_roomy, half}
 
 -- the bond b can be added: its atoms are there, are two, have no bond yet with each other and fewer than six with others, and its code is one
 pub record Joinable (M : Molecule) (b : Bond) : Type 0 where
@@ -33,7 +33,7 @@ pub record Joined (M : Molecule) (b : Bond) (M' : Molecule) : Type 0 where
   pub code : (x y : ℕ) → x < M.size → y < M.size → M'.code x y ≡ cond (joins x y b) b.code (M.code x y)
   pub degree : (x : ℕ) → x < M.size → length (neighbours M' x) ≡ length (neighbours M x) + cond (on x b) 1 0
 
-module _ (M : Molecule) (a b c : ℕ) (J : Joinable M (bondOf a b c)) where
+module _ (M : Molecule) (a b c : ℕ) (J : Joinable M (bond_of a b c)) where
   first-half : HalfJoinable M a b c
   first-half = record { one = J.one; two = J.two; first = J.first; room = J.room-one; some = J.some; known = J.known }
 
@@ -41,8 +41,8 @@ module _ (M : Molecule) (a b c : ℕ) (J : Joinable M (bondOf a b c)) where
     other : eqb a b ≡ false
     other = ne_eqb a b J.apart
 
-    second-half : HalfJoinable M' b a c
-    second-half = record {
+    second_half : HalfJoinable M' b a c
+    second_half = record {
       one = omega (arith, H.size, J.two);
       two = omega (arith, H.size, J.one);
       first = H.code b a J.two J.one ∙ rw other J.back;
@@ -71,7 +71,7 @@ module _ (M : Molecule) (a b c : ℕ) (J : Joinable M (bondOf a b c)) where
       ends false true h = refl
       ends false false h = refl
 
-      both_halves : Joined M (bondOf a b c) M''
+      both_halves : Joined M (bond_of a b c) M''
       both_halves = record {
         size = G.size ∙ H.size;
         label = λ x. G.label x ∙ H.label x;
@@ -91,8 +91,8 @@ module _ (M : Molecule) (a b c : ℕ) (J : Joinable M (bondOf a b c)) where
 abbrev pub rowed : Table → RowArrays → Table
 rowed t R = record { n = t.n; kinds = t.kinds; hydrogens = t.hydrogens; degrees = R.degrees; near = R.near; codes = R.codes }
 
-module _ (t : Arrays) (T : Tidy t) (a b c : ℕ) (J : Joinable (asMolecule t) (bondOf a b c)) where
-  back : Joinable (asMolecule t) (bondOf b a c)
+module _ (t : Arrays) (T : Tidy t) (a b c : ℕ) (J : Joinable (as_molecule t) (bond_of a b c)) where
+  back : Joinable (as_molecule t) (bond_of b a c)
   back = record {
     one = J.two;
     two = J.one;
@@ -106,11 +106,11 @@ module _ (t : Arrays) (T : Tidy t) (a b c : ℕ) (J : Joinable (asMolecule t) (b
   }
 
   pub bond-roomy : RoomFor (rows_of t) a × RoomFor (rows_of t) b × (a ≢ b)
-  bond-roomy = (half-roomy t T a b c (first-half (asMolecule t) a b c J), half-roomy t T b a c (first-half (asMolecule t) b a c back), J.apart)
+  bond-roomy = (half_roomy t T a b c (first-half (as_molecule t) a b c J), half_roomy t T b a c (first-half (as_molecule t) b a c back), J.apart)
 
-  pub bond-joins : (R : RowArrays) → BondPut (rows_of t) a b c R → Tidy (withRows t R) × Joined (asMolecule t) (bondOf a b c) (asMolecule (withRows t R))
+  pub bond-joins : (R : RowArrays) → BondPut (rows_of t) a b c R → Tidy (with_rows t R) × Joined (as_molecule t) (bond_of a b c) (as_molecule (with_rows t R))
   bond-joins R B =
-      let one = half t T a b c (first-half (asMolecule t) a b c J) B.between B.one in
-      let M = asMolecule (withRows t B.between) in
-      let two = half (withRows t B.between) one.0 b a c (second-half (asMolecule t) a b c J M one.1) R B.two in
-      (two.0, both_halves (asMolecule t) a b c J M one.1 (asMolecule (withRows t R)) two.1)
+      let one = half t T a b c (first-half (as_molecule t) a b c J) B.between B.one in
+      let M = as_molecule (with_rows t B.between) in
+      let two = half (with_rows t B.between) one.0 b a c (second_half (as_molecule t) a b c J M one.1) R B.two in
+      (two.0, both_halves (as_molecule t) a b c J M one.1 (as_molecule (with_rows t R)) two.1)

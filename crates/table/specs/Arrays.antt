@@ -17,25 +17,25 @@ abbrev pub row_in : (degrees slots : List ℕ) → ℕ → List ℕ
 row_in degrees slots a = take (get_or degrees a 0) (drop (6 * a) slots)
 
 -- the code that stands in the row of a where b does, 0 where b is not in it
-unfoldable pub codeFound : (degrees near codes : List ℕ) → ℕ → ℕ → ℕ
-codeFound degrees near codes a b = get_or (row_in degrees codes a) (find (λ x. eqb x b) (row_in degrees near a)) 0
+unfoldable pub code_found : (degrees near codes : List ℕ) → ℕ → ℕ → ℕ
+code_found degrees near codes a b = get_or (row_in degrees codes a) (find (λ x. eqb x b) (row_in degrees near a)) 0
 
-unfoldable pub asMolecule : Arrays → Molecule
-asMolecule t =
+unfoldable pub as_molecule : Arrays → Molecule
+as_molecule t =
     record {
       size = t.n;
       label = λ a. get_or t.kinds a 0 ∷ get_or t.hydrogens a 0 ∷ [];
-      code = codeFound t.degrees t.near t.codes;
+      code = code_found t.degrees t.near t.codes;
     }
 
 -- What every table keeps: the arrays have their lengths, and each row has at most six atoms of the table, ascending.
 pub record Tidy (t : Arrays) : Type 0 where
   pub atoms : t.n ≤ 64
-  pub kindsLong : length t.kinds ≡ 64
-  pub hydrogensLong : length t.hydrogens ≡ 64
-  pub degreesLong : length t.degrees ≡ 64
-  pub nearLong : length t.near ≡ 384
-  pub codesLong : length t.codes ≡ 384
+  pub kinds_long : length t.kinds ≡ 64
+  pub hydrogens_long : length t.hydrogens ≡ 64
+  pub degrees_long : length t.degrees ≡ 64
+  pub near_long : length t.near ≡ 384
+  pub codes_long : length t.codes ≡ 384
   pub few : (a : ℕ) → a < t.n → get_or t.degrees a 0 ≤ 6
   pub inside : (a p : ℕ) → a < t.n → p < get_or t.degrees a 0 → get_or t.near (6 * a + p) 0 < t.n
   pub ascending : (a p : ℕ) → a < t.n → suc p < get_or t.degrees a 0 → get_or t.near (6 * a + p) 0 < get_or t.near (6 * a + suc p) 0

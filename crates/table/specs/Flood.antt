@@ -9,22 +9,22 @@ pub record Flood : Type 0 where
   pub queue : List ℕ
   pub end : ℕ
 
-abbrev pub isSeen : Flood → ℕ → Bool
-isSeen f b = not (eqb (get_or f.seen b 0) 0)
+abbrev pub is_seen : Flood → ℕ → Bool
+is_seen f b = not (eqb (get_or f.seen b 0) 0)
 
 abbrev added : Flood → ℕ → Flood
 added f b = record { seen = set f.seen b 1; queue = set f.queue f.end b; end = f.end + 1 }
 
 -- an atom that was not seen before joins the queue
 unfoldable pub see : Flood → ℕ → Flood
-see f b = cond (isSeen f b) f (added f b)
+see f b = cond (is_seen f b) f (added f b)
 
-unfoldable pub seeAll : Flood → List ℕ → Flood
-seeAll f [] = f
-seeAll f (b ∷ l) = seeAll (see f b) l
+unfoldable pub see_all : Flood → List ℕ → Flood
+see_all f [] = f
+see_all f (b ∷ l) = see_all (see f b) l
 
 -- as many stand in the queue as were seen
 pub record Counted (f : Flood) : Type 0 where
-  pub seenLong : length f.seen ≡ 64
-  pub queueLong : length f.queue ≡ 64
-  pub end : f.end ≡ count (each 64 (isSeen f))
+  pub seen_long : length f.seen ≡ 64
+  pub queue_long : length f.queue ≡ 64
+  pub end : f.end ≡ count (each 64 (is_seen f))

@@ -2,17 +2,17 @@
 use Rattle.std.specs.Prelude.{◌≡◌, ℕ, ◌<◌}
 use Rattle.molecule.specs.Molecule.{Molecule}
 use Rattle.table.specs.declared.Table.{Table}
-use Rattle.table.specs.Arrays.{Arrays, asMolecule, Tidy}
+use Rattle.table.specs.Arrays.{Arrays, as_molecule, Tidy}
 
-abbrev pub arraysOf : Table → Arrays
-arraysOf t =
+abbrev pub arrays_of : Table → Arrays
+arrays_of t =
     record { n = t.n; kinds = t.kinds; hydrogens = t.hydrogens; degrees = t.degrees; near = t.near; codes = t.codes }
 
 abbrev pub view_of : Table → Molecule
-view_of t = asMolecule (arraysOf t)
+view_of t = as_molecule (arrays_of t)
 
 abbrev pub TidyTable : Table → Type 0
-TidyTable t = Tidy (arraysOf t)
+TidyTable t = Tidy (arrays_of t)
 
 -- the code of two atoms does not depend on which comes first
 abbrev pub EvenTable : Table → Type 0

@@ -1,7 +1,7 @@
 // One step of the flood from atom 0.
 ghost use Rattle.std.specs.Prelude.{◌≡◌, ℕ, ◌+◌, ◌*◌, ◌<◌, get_or};
 ghost use Rattle.table.specs.Arrays.{HasRow, row_in};
-ghost use Rattle.table.specs.Flood.{Flood, see, seeAll, Counted};
+ghost use Rattle.table.specs.Flood.{Flood, see, see_all, Counted};
 
 use super::{AtomNo, Table, wide};
 
@@ -34,7 +34,7 @@ pub fn visit<'a>(
     a: AtomNo,
 ) -> usize
     requires { Counted (record { seen = seen.now; queue = queue.old; end = end }) × HasRow degrees.now near.now a.0 × ((p : ℕ) → p < get_or degrees.now a.0 0 → get_or near.now (6 * a.0 + p) 0 < 64) }
-    ensures { record { seen = seen.exit.now; queue = queue.new; end = result } ≡ seeAll (record { seen = seen.entry.now; queue = queue.old; end = end }) (row_in degrees.now near.now a.0) }
+    ensures { record { seen = seen.exit.now; queue = queue.new; end = result } ≡ see_all (record { seen = seen.entry.now; queue = queue.old; end = end }) (row_in degrees.now near.now a.0) }
 {
     let i = a.0 as usize;
     let d = wide(degrees[i]);

@@ -1,4 +1,6 @@
 // A molecule in arrays: its atoms in order, and for each atom a row of at most six neighbours, ascending.
+#![tactic(auto)]
+
 ghost use Rattle.std.specs.Prelude.{◌≡◌, ◌<◌};
 ghost use Rattle.molecule.specs.Molecule.{connected};
 ghost use Rattle.table.specs.View.{view_of, TidyTable, EvenTable};

@@ -8,13 +8,13 @@ use lib.ListN.{length, length-append}
 use borrow.Author.Tests.{eq-eqb, ne_eqb, eqb-false, leb-false}
 use Rattle.sling.specs.Items.{Target, Item, atom, reference, ring}
 use Rattle.sling.specs.Reading as rules
-use Rattle.sling.specs.Reading.{place_of, after, drawn, hydrogensOn, bondsOn}
-use Rattle.sling.specs.Faults.{misplaced, unknown, missing, brokenH, badBond, heavyBonds, itemFault}
-use Rattle.lists.proofs.Booleans.{or-neither}
+use Rattle.sling.specs.Reading.{place_of, after, drawn, hydrogens_on, bonds_on}
+use Rattle.sling.specs.Faults.{misplaced, unknown, missing, broken_h, bad_bond, heavy_bonds, item_fault}
+use Rattle.lists.proofs.Booleans.{or_neither}
 use Rattle.text.specs.declared.state.State.{State}
-use Rattle.text.specs.Holding.{view_of, Tallied, Reached, Held, Judged, Drawable, grownBy, moved_to, bondedBy}
-use Rattle.text.proofs.ReachedLaws.{reached-after, reached-reader, reached-room, reached-places, reached-bonds, no-places}
-use Rattle.text.proofs.StateLaws.{view_places, view-bonds, grown-hydrogensOn, grown-bondsOn, grown-heavyBonds}
+use Rattle.text.specs.Holding.{view_of, Tallied, Reached, Held, Judged, Drawable, grown_by, moved_to, bonded_by}
+use Rattle.text.proofs.ReachedLaws.{reached-after, reached-reader, reached-room, reached-places, reached-bonds, no_places}
+use Rattle.text.proofs.StateLaws.{view_places, view-bonds, grown_hydrogens_on, grown_bonds_on, grown_heavy_bonds}
 
 -- the first test of a cascade fails, and so on
 passed : (b : Bool) (n m : ℕ) → cond b (suc n) m ≡ 0 → (b ≡ false) × (m ≡ 0)
@@ -24,16 +24,16 @@ passed false n m e = (refl, e)
 record Clear (s : rules.State) (i : Item) : Type 0 where
   two : misplaced s i ≡ false
   five : missing s i ≡ false
-  six : badBond s i ≡ false
+  six : bad_bond s i ≡ false
 
-clear_of : (s : rules.State) (i : Item) → itemFault s i ≡ 0 → Clear s i
-unfolding itemFault
+clear_of : (s : rules.State) (i : Item) → item_fault s i ≡ 0 → Clear s i
+unfolding item_fault
 clear_of s i e =
     let a = passed (misplaced s i) 1 _ e in
     let b = passed (unknown i) 2 _ a.1 in
     let c = passed (missing s i) 4 _ b.1 in
-    let d = passed (brokenH s i) 6 _ c.1 in
-    let f = passed (badBond s i) 5 _ d.1 in
+    let d = passed (broken_h s i) 6 _ c.1 in
+    let f = passed (bad_bond s i) 5 _ d.1 in
     record { two = a.0; five = c.0; six = f.0 }
 
 pub held_by : (r : State) (s : rules.State) (i : Item) → Tallied r → view_of r ≡ after s i → Reached s → Judged s i → Held r
@@ -43,22 +43,22 @@ module _ (s : rules.State) (m k : ℕ) (R : Reached s) (J : Judged s (atom m k))
   next : Reached (after s (atom m k))
   next = reached-after s (atom m k) R J.marked J.clear
 
-  pub more-places : length s.kinds < 192
+  pub more_places : length s.kinds < 192
   unfolding after
-  more-places = omega (arith, length-append s.kinds (k ∷ []), reached-places (after s (atom m k)) next)
+  more_places = omega (arith, length-append s.kinds (k ∷ []), reached-places (after s (atom m k)) next)
 
-  pub first-after : length s.kinds ≡ 0 → moved_to (grownBy s k) 0 ≡ after s (atom m k)
+  pub first-after : length s.kinds ≡ 0 → moved_to (grown_by s k) 0 ≡ after s (atom m k)
   unfolding after
   first-after z =
-      let b = no-places s (reached-reader s R) z in
+      let b = no_places s (reached-reader s R) z in
       rw (eq-eqb _ _ z) (λ i. record { kinds = s.kinds ++ (k ∷ []); ups = s.ups ++ (s.cursor ∷ []); bonds = b i; cursor = sym z i })
 
-  pub later-after : (length s.kinds ≡ 0 → ⊥) → bondedBy (grownBy s k) (length s.kinds) m ≡ after s (atom m k)
+  pub later_after : (length s.kinds ≡ 0 → ⊥) → bonded_by (grown_by s k) (length s.kinds) m ≡ after s (atom m k)
   unfolding after
-  later-after n = rw (ne_eqb _ _ n)
+  later_after n = rw (ne_eqb _ _ n)
 
-  pub grown-drawable : (length s.kinds ≡ 0 → ⊥) → (g : State) → Tallied g → view_of g ≡ grownBy s k → Drawable g (length s.kinds)
-  grown-drawable n g t e =
+  pub grown_drawable : (length s.kinds ≡ 0 → ⊥) → (g : State) → Tallied g → view_of g ≡ grown_by s k → Drawable g (length s.kinds)
+  grown_drawable n g t e =
       let S = reached-reader s R in
       let M = reached-room s R in
       let here : s.cursor < length s.kinds = S.cursor (omega arith) in
@@ -66,22 +66,22 @@ module _ (s : rules.State) (m k : ℕ) (R : Reached s) (J : Judged s (atom m k))
       let places : g.n ≡ length s.kinds + 1 = sym (view_places g t) ∙ ap (λ (v : rules.State). length v.kinds) e ∙ length-append s.kinds (k ∷ []) in
       let bonds : g.drawn ≡ length s.bonds = sym (view-bonds g) ∙ ap (λ (v : rules.State). length v.bonds) e in
       let all : length (after s (atom m k)).bonds ≤ 208 = reached-bonds (after s (atom m k)) next in
-      let one : length (after s (atom m k)).bonds ≡ length s.bonds + 1 = sym (ap (λ (v : rules.State). length v.bonds) (later-after n)) ∙ length-append s.bonds _ in
+      let one : length (after s (atom m k)).bonds ≡ length s.bonds + 1 = sym (ap (λ (v : rules.State). length v.bonds) (later_after n)) ∙ length-append s.bonds _ in
       let low : g.n ≤ 192 = t.places in
       record {
         bonds = omega arith;
-        heavy = omega (arith, t.heavyBonds, ap heavyBonds e, heavy-same, M.bonds);
+        heavy = omega (arith, t.heavy_bonds, ap heavy_bonds e, heavy-same, M.bonds);
         from = omega arith;
         to = omega arith;
         apart = λ q. omega arith;
-        fewH = omega (arith, t.hydrogensOn g.cursor.0 (omega arith), ap (λ (v : rules.State). hydrogensOn v g.cursor.0) e, grown-hydrogensOn s k S g.cursor.0, M.hydrogensAt g.cursor.0);
-        fewH' = omega (arith, t.hydrogensOn (length s.kinds) (omega arith), ap (λ (v : rules.State). hydrogensOn v (length s.kinds)) e, grown-hydrogensOn s k S (length s.kinds), M.hydrogensAt (length s.kinds));
-        few = omega (arith, t.bondsOn g.cursor.0 (omega arith), ap (λ (v : rules.State). bondsOn v g.cursor.0) e, grown-bondsOn s k S g.cursor.0, M.bondsAt g.cursor.0);
-        few' = omega (arith, t.bondsOn (length s.kinds) (omega arith), ap (λ (v : rules.State). bondsOn v (length s.kinds)) e, grown-bondsOn s k S (length s.kinds), M.bondsAt (length s.kinds));
+        few_h = omega (arith, t.hydrogens_on g.cursor.0 (omega arith), ap (λ (v : rules.State). hydrogens_on v g.cursor.0) e, grown_hydrogens_on s k S g.cursor.0, M.hydrogens_at g.cursor.0);
+        few_h' = omega (arith, t.hydrogens_on (length s.kinds) (omega arith), ap (λ (v : rules.State). hydrogens_on v (length s.kinds)) e, grown_hydrogens_on s k S (length s.kinds), M.hydrogens_at (length s.kinds));
+        few = omega (arith, t.bonds_on g.cursor.0 (omega arith), ap (λ (v : rules.State). bonds_on v g.cursor.0) e, grown_bonds_on s k S g.cursor.0, M.bonds_at g.cursor.0);
+        few' = omega (arith, t.bonds_on (length s.kinds) (omega arith), ap (λ (v : rules.State). bonds_on v (length s.kinds)) e, grown_bonds_on s k S (length s.kinds), M.bonds_at (length s.kinds));
       }
     where
-      heavy-same : heavyBonds (grownBy s k) ≡ heavyBonds s
-      heavy-same = grown-heavyBonds s k (reached-reader s R)
+      heavy-same : heavy_bonds (grown_by s k) ≡ heavy_bonds s
+      heavy-same = grown_heavy_bonds s k (reached-reader s R)
 
 module _ (st : State) (H : Held st) where
   abbrev s : rules.State
@@ -107,7 +107,7 @@ module _ (st : State) (H : Held st) where
       pub ring-some : st.n ≡ 0 → ⊥
       ring-some q = eqb-false _ _ C.two (view_places st H.tallied ∙ q)
 
-      pub ring-after : bondedBy s (place_of s t) m ≡ after s (ring m t)
+      pub ring-after : bonded_by s (place_of s t) m ≡ after s (ring m t)
       unfolding after
       ring-after = refl
 
@@ -119,19 +119,19 @@ module _ (st : State) (H : Held st) where
           let e = view_places st T in
           let to : place_of s t < length s.kinds = leb-false _ _ C.five in
           let here : st.cursor.0 < length s.kinds = S.cursor (omega arith) in
-          let ne : st.cursor.0 ≡ place_of s t → ⊥ = eqb-false _ _ (or-neither _ _ C.six).0 in
+          let ne : st.cursor.0 ≡ place_of s t → ⊥ = eqb-false _ _ (or_neither _ _ C.six).0 in
           let all : length (after s (ring m t)).bonds ≤ 208 = reached-bonds (after s (ring m t)) (reached-after s (ring m t) H.reached J.marked J.clear) in
           let one : length (after s (ring m t)).bonds ≡ length s.bonds + 1 = sym (ap (λ (v : rules.State). length v.bonds) ring-after) ∙ length-append s.bonds _ in
           let bonds = view-bonds st in
           let low : st.n ≤ 192 = T.places in
           record {
             bonds = omega arith;
-            heavy = omega (arith, T.heavyBonds, M.bonds);
+            heavy = omega (arith, T.heavy_bonds, M.bonds);
             from = omega arith;
             to = omega arith;
             apart = λ z. ne (z ∙ q);
-            fewH = omega (arith, T.hydrogensOn st.cursor.0 (omega arith), M.hydrogensAt st.cursor.0);
-            fewH' = omega (arith, T.hydrogensOn p (omega arith), M.hydrogensAt p);
-            few = omega (arith, T.bondsOn st.cursor.0 (omega arith), M.bondsAt st.cursor.0);
-            few' = omega (arith, T.bondsOn p (omega arith), M.bondsAt p);
+            few_h = omega (arith, T.hydrogens_on st.cursor.0 (omega arith), M.hydrogens_at st.cursor.0);
+            few_h' = omega (arith, T.hydrogens_on p (omega arith), M.hydrogens_at p);
+            few = omega (arith, T.bonds_on st.cursor.0 (omega arith), M.bonds_at st.cursor.0);
+            few' = omega (arith, T.bonds_on p (omega arith), M.bonds_at p);
           }

@@ -14,33 +14,33 @@ use Rattle.lists.specs.Upto.{from}
 use Rattle.lists.specs.Tests.{keep, count}
 use Rattle.lists.proofs.KeptBelow.{count-more, kept-count, kept-hit, kept-miss, kept_at}
 use Rattle.sling.specs.Reading as rules
-use Rattle.sling.specs.Reading.{isH, hydrogensOn}
-use Rattle.sling.specs.Folded.{heavyPlaces, folded}
+use Rattle.sling.specs.Reading.{is_h, hydrogens_on}
+use Rattle.sling.specs.Folded.{heavy_places, folded}
 use Rattle.sling.proofs.Tidy.{Tidy}
 use Rattle.sling.proofs.Limits.{Room}
 use Rattle.sling.proofs.Folds.{folded-size}
 use Rattle.table.specs.Arrays as arrays
-use Rattle.table.specs.Arrays.{asMolecule}
-use Rattle.table.proofs.Unbonded.{unbonded, unbonded-tidy, unbonded-code, unbonded-degree}
-use Rattle.text.specs.Folding.{heaviesTo, HeavyPut, BareTo}
+use Rattle.table.specs.Arrays.{as_molecule}
+use Rattle.table.proofs.Unbonded.{unbonded, unbonded_tidy, unbonded_code, unbonded_degree}
+use Rattle.text.specs.Folding.{heavies_to, HeavyPut, BareTo}
 
 abbrev pub heavy : rules.State → ℕ → Bool
-heavy s p = not (isH s p)
+heavy s p = not (is_h s p)
 
 -- the kinds and hydrogens of the places below i that have no H, in their order
 pub record Heavies (s : rules.State) (i n : ℕ) (ks hs : List ℕ) : Type 0 where
-  pub kindsLong : length ks ≡ 64
-  pub hydrogensLong : length hs ≡ 64
-  pub size : n ≡ length (heaviesTo s i)
-  pub kinds : (a : ℕ) → a < n → get_or ks a 0 ≡ get_or s.kinds (get_or (heaviesTo s i) a 0) 0
-  pub hydrogens : (a : ℕ) → a < n → get_or hs a 0 ≡ hydrogensOn s (get_or (heaviesTo s i) a 0)
+  pub kinds_long : length ks ≡ 64
+  pub hydrogens_long : length hs ≡ 64
+  pub size : n ≡ length (heavies_to s i)
+  pub kinds : (a : ℕ) → a < n → get_or ks a 0 ≡ get_or s.kinds (get_or (heavies_to s i) a 0) 0
+  pub hydrogens : (a : ℕ) → a < n → get_or hs a 0 ≡ hydrogens_on s (get_or (heavies_to s i) a 0)
 
-pub heavies-start : (s : rules.State) → Heavies s 0 0 (replicate 64 0) (replicate 64 0)
+pub heavies_start : (s : rules.State) → Heavies s 0 0 (replicate 64 0) (replicate 64 0)
 unfolding keep from
-heavies-start s =
+heavies_start s =
     record {
-      kindsLong = length-replicate {A = ℕ} 64 0;
-      hydrogensLong = length-replicate {A = ℕ} 64 0;
+      kinds_long = length-replicate {A = ℕ} 64 0;
+      hydrogens_long = length-replicate {A = ℕ} 64 0;
       size = refl;
       kinds = λ a h. absurd (omega arith);
       hydrogens = λ a h. absurd (omega arith);
@@ -56,65 +56,65 @@ one_more f l places n i x e h q g a k = pick (ℕ_discrete a n)
     pick (no z) = get_or-set_other l n a x 0 z ∙ g a (omega arith) ∙ ap f (sym (get_or-append places (i ∷ []) 0 a (omega arith)))
 
 -- one place more
-module _ (s : rules.State) (i n : ℕ) (ks hs : List ℕ) (B : Heavies s i n ks hs) (k h : ℕ) (ek : k ≡ get_or s.kinds i 0) (eh : h ≡ hydrogensOn s i) where
-  same-places : heaviesTo s (suc i) ≡ heaviesTo s i → Heavies s (suc i) n ks hs
-  same-places e =
-      record { kindsLong = B.kindsLong; hydrogensLong = B.hydrogensLong; size = rw e B.size; kinds = λ a l. rw e (B.kinds a l); hydrogens = λ a l. rw e (B.hydrogens a l) }
+module _ (s : rules.State) (i n : ℕ) (ks hs : List ℕ) (B : Heavies s i n ks hs) (k h : ℕ) (ek : k ≡ get_or s.kinds i 0) (eh : h ≡ hydrogens_on s i) where
+  same_places : heavies_to s (suc i) ≡ heavies_to s i → Heavies s (suc i) n ks hs
+  same_places e =
+      record { kinds_long = B.kinds_long; hydrogens_long = B.hydrogens_long; size = rw e B.size; kinds = λ a l. rw e (B.kinds a l); hydrogens = λ a l. rw e (B.hydrogens a l) }
 
-  new-place : heaviesTo s (suc i) ≡ heaviesTo s i ++ (i ∷ []) → n < 64 → Heavies s (suc i) (n + 1) (set ks n k) (set hs n h)
-  new-place e l =
+  new_place : heavies_to s (suc i) ≡ heavies_to s i ++ (i ∷ []) → n < 64 → Heavies s (suc i) (n + 1) (set ks n k) (set hs n h)
+  new_place e l =
       record {
-        kindsLong = length-set ks n k ∙ B.kindsLong;
-        hydrogensLong = length-set hs n h ∙ B.hydrogensLong;
-        size = rw e (omega (arith, B.size, length-append (heaviesTo s i) (i ∷ [])));
-        kinds = rw e (one_more (λ p. get_or s.kinds p 0) ks (heaviesTo s i) n i k B.size (omega (arith, B.kindsLong)) ek B.kinds);
-        hydrogens = rw e (one_more (hydrogensOn s) hs (heaviesTo s i) n i h B.size (omega (arith, B.hydrogensLong)) eh B.hydrogens);
+        kinds_long = length-set ks n k ∙ B.kinds_long;
+        hydrogens_long = length-set hs n h ∙ B.hydrogens_long;
+        size = rw e (omega (arith, B.size, length-append (heavies_to s i) (i ∷ [])));
+        kinds = rw e (one_more (λ p. get_or s.kinds p 0) ks (heavies_to s i) n i k B.size (omega (arith, B.kinds_long)) ek B.kinds);
+        hydrogens = rw e (one_more (hydrogens_on s) hs (heavies_to s i) n i h B.size (omega (arith, B.hydrogens_long)) eh B.hydrogens);
       }
 
-  pub heavies-step : ((k ≡ 0 → ⊥) → n < 64) → (n' : ℕ) (ks' hs' : List ℕ) → HeavyPut n k h ks hs n' ks' hs' → Heavies s (i + 1) n' ks' hs'
-  heavies-step room n' ks' hs' A = rw (add-one i) (pick (isH s i) refl)
+  pub heavies_step : ((k ≡ 0 → ⊥) → n < 64) → (n' : ℕ) (ks' hs' : List ℕ) → HeavyPut n k h ks hs n' ks' hs' → Heavies s (i + 1) n' ks' hs'
+  heavies_step room n' ks' hs' A = rw (add-one i) (pick (is_h s i) refl)
     where
-      test : (b : Bool) → isH s i ≡ b → eqb k 0 ≡ b
+      test : (b : Bool) → is_h s i ≡ b → eqb k 0 ≡ b
       test b e = ap (λ (x : ℕ). eqb x 0) ek ∙ e
 
-      pick : (b : Bool) → isH s i ≡ b → Heavies s (suc i) n' ks' hs'
+      pick : (b : Bool) → is_h s i ≡ b → Heavies s (suc i) n' ks' hs'
       pick true e =
-          rw (A.count, A.kinds, A.hydrogens, test true e) (same-places (kept-miss (heavy s) i (rw e)))
+          rw (A.count, A.kinds, A.hydrogens, test true e) (same_places (kept-miss (heavy s) i (rw e)))
       pick false e =
-          rw (A.count, A.kinds, A.hydrogens, test false e) (new-place (kept-hit (heavy s) i (rw e)) (room (eqb-false _ _ (test false e))))
+          rw (A.count, A.kinds, A.hydrogens, test false e) (new_place (kept-hit (heavy s) i (rw e)) (room (eqb-false _ _ (test false e))))
 
-pub heavies-bare : (s : rules.State) (i n : ℕ) (ks hs : List ℕ) → n ≤ 64 → Heavies s i n ks hs → arrays.Tidy (unbonded n ks hs) × BareTo s i (asMolecule (unbonded n ks hs))
-unfolding asMolecule
-heavies-bare s i n ks hs l B = (
-  unbonded-tidy n ks hs l B.kindsLong B.hydrogensLong,
+pub heavies_bare : (s : rules.State) (i n : ℕ) (ks hs : List ℕ) → n ≤ 64 → Heavies s i n ks hs → arrays.Tidy (unbonded n ks hs) × BareTo s i (as_molecule (unbonded n ks hs))
+unfolding as_molecule
+heavies_bare s i n ks hs l B = (
+  unbonded_tidy n ks hs l B.kinds_long B.hydrogens_long,
   record {
     size = B.size;
     label = λ a h. λ j. B.kinds a h j ∷ B.hydrogens a h j ∷ [];
-    code = λ a b h k. unbonded-code n ks hs l B.kindsLong B.hydrogensLong a b h;
-    none = λ a h. unbonded-degree n ks hs l B.kindsLong B.hydrogensLong a h;
+    code = λ a b h k. unbonded_code n ks hs l B.kinds_long B.hydrogens_long a b h;
+    none = λ a h. unbonded_degree n ks hs l B.kinds_long B.hydrogens_long a h;
   },
 )
 
 -- the atoms of a tidy reader are few enough
 module _ (s : rules.State) (t : Tidy s.kinds s.bonds) (m : Room s) where
-  heavies-few : length (heaviesTo s (length s.kinds)) ≤ 64
-  unfolding folded heavyPlaces
-  heavies-few = omega (arith, folded-size s t, m.atoms)
+  heavies_few : length (heavies_to s (length s.kinds)) ≤ 64
+  unfolding folded heavy_places
+  heavies_few = omega (arith, folded-size s t, m.atoms)
 
-  pub bare-room : (i : ℕ) → i < length s.kinds → (get_or s.kinds i 0 ≡ 0 → ⊥) → length (heaviesTo s i) < 64
+  pub bare-room : (i : ℕ) → i < length s.kinds → (get_or s.kinds i 0 ≡ 0 → ⊥) → length (heavies_to s i) < 64
   bare-room i h n =
       let w = kept_at (heavy s) (length s.kinds) i h (rw (ne_eqb _ _ n)) in
-      omega (arith, w.0, heavies-few)
+      omega (arith, w.0, heavies_few)
 
-  pub bare-small : (i : ℕ) → i ≤ length s.kinds → length (heaviesTo s i) ≤ 64
+  pub bare-small : (i : ℕ) → i ≤ length s.kinds → length (heavies_to s i) ≤ 64
   bare-small i h =
-      omega (arith, heavies-few, kept-count (heavy s) i, kept-count (heavy s) (length s.kinds), count-more (heavy s) i (length s.kinds) h)
+      omega (arith, heavies_few, kept-count (heavy s) i, kept-count (heavy s) (length s.kinds), count-more (heavy s) i (length s.kinds) h)
 
 -- the numbers by place, one more
-pub numbered_more : (s : rules.State) (l : List ℕ) (p x : ℕ) → p < length l → x ≡ length (heaviesTo s p) → ((q : ℕ) → q < p → get_or l q 0 ≡ length (heaviesTo s q))
-    → (q : ℕ) → q < p + 1 → get_or (set l p x) q 0 ≡ length (heaviesTo s q)
+pub numbered_more : (s : rules.State) (l : List ℕ) (p x : ℕ) → p < length l → x ≡ length (heavies_to s p) → ((q : ℕ) → q < p → get_or l q 0 ≡ length (heavies_to s q))
+    → (q : ℕ) → q < p + 1 → get_or (set l p x) q 0 ≡ length (heavies_to s q)
 numbered_more s l p x h e f q k = pick (ℕ_discrete q p)
   where
-    pick : Dec (q ≡ p) → get_or (set l p x) q 0 ≡ length (heaviesTo s q)
+    pick : Dec (q ≡ p) → get_or (set l p x) q 0 ≡ length (heavies_to s q)
     pick (yes z) = rw z (get_or-set_same l p x 0 h ∙ e)
     pick (no z) = get_or-set_other l p q x 0 z ∙ f q (omega arith)

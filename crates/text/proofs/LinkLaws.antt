@@ -12,30 +12,30 @@ use lib.Seq.{take-suc, take-length}
 use lib.Dec.{eqb}
 use borrow.Author.Tests.{eq-eqb, ne_eqb, eqb-true, eqb-false, not-true}
 use Rattle.lists.specs.Tests.{count}
-use Rattle.lists.proofs.Upto.{getD-each}
-use Rattle.lists.proofs.Members.{getD-mem}
+use Rattle.lists.proofs.Upto.{get_or-each}
+use Rattle.lists.proofs.Members.{get_or-mem}
 use Rattle.lists.proofs.KeptBelow.{Kept, kept_at, kept_of}
 use Rattle.lists.proofs.Passed.{count-take}
 use Rattle.molecule.specs.Bonds.{Bond, on, joins, code_in}
 use Rattle.molecule.specs.Molecule.{Molecule, neighbours}
 use Rattle.molecule.specs.Renumbering.{Renumbered}
-use Rattle.molecule.proofs.BondLists.{codeIn-swap}
+use Rattle.molecule.proofs.BondLists.{code_in-swap}
 use Rattle.sling.specs.Reading as rules
-use Rattle.sling.specs.Reading.{isH, toH, hydrogensOn}
-use Rattle.sling.specs.Folded.{heavyPlaces, folded}
-use Rattle.lists.proofs.All.{all-mem}
+use Rattle.sling.specs.Reading.{is_h, to_h, hydrogens_on}
+use Rattle.sling.specs.Folded.{heavy_places, folded}
+use Rattle.lists.proofs.All.{all_mem}
 use Rattle.lists.proofs.Passed.{count-snoc}
 use Rattle.sling.proofs.Tidy.{Proper, Tidy}
 use Rattle.molecule.proofs.BondLists.{joins-ends}
 use Rattle.sling.proofs.Limits.{Room}
-use Rattle.table.specs.Changes.{bondOf, RowArrays}
+use Rattle.table.specs.Changes.{bond_of, RowArrays}
 use Rattle.table.specs.declared.Table.{Table}
-use Rattle.table.specs.View.{arraysOf, TidyTable}
+use Rattle.table.specs.View.{arrays_of, TidyTable}
 use Rattle.table.proofs.Halves.{rows_of}
 use Rattle.table.proofs.Joins.{Joinable, Joined, rowed, bond-roomy, bond-joins}
 use Rattle.text.specs.declared.state.State.{State}
-use Rattle.text.specs.Holding.{bondAt, view_of, Held}
-use Rattle.text.specs.Folding.{moleculeOf, heaviesTo, BareTo, Linkable, Links}
+use Rattle.text.specs.Holding.{bond_at, view_of, Held}
+use Rattle.text.specs.Folding.{molecule_of, heavies_to, BareTo, Linkable, Links}
 use Rattle.text.proofs.ReachedLaws.{reached-reader, reached-room}
 use Rattle.text.proofs.StateLaws.{view_places, view-kind, view-bonds}
 use Rattle.text.proofs.FoldLaws.{heavy}
@@ -50,9 +50,9 @@ count-part f (x ∷ l) zero = omega arith
 count-part f (x ∷ l) (suc k) = omega (arith, count-part f l k)
 
 -- a bond more at the end of a list in which no pair has two
-codeIn-last : (bs : List Bond) (b : Bond) (p q : ℕ) → count (map (joins p q) (bs ++ (b ∷ []))) ≤ 1 → code_in (bs ++ (b ∷ [])) p q ≡ cond (joins p q b) b.code (code_in bs p q)
-codeIn-last [] b p q h = refl
-codeIn-last (x ∷ bs) b p q h = pick (joins p q x) (joins p q b) refl refl (codeIn-last bs b p q)
+code_in-last : (bs : List Bond) (b : Bond) (p q : ℕ) → count (map (joins p q) (bs ++ (b ∷ []))) ≤ 1 → code_in (bs ++ (b ∷ [])) p q ≡ cond (joins p q b) b.code (code_in bs p q)
+code_in-last [] b p q h = refl
+code_in-last (x ∷ bs) b p q h = pick (joins p q x) (joins p q b) refl refl (code_in-last bs b p q)
   where
     pick : (y z : Bool) → joins p q x ≡ y → joins p q b ≡ z → (count (map (joins p q) (bs ++ (b ∷ []))) ≤ 1 → code_in (bs ++ (b ∷ [])) p q ≡ cond (joins p q b) b.code (code_in bs p q))
         → code_in (x ∷ (bs ++ (b ∷ []))) p q ≡ cond (joins p q b) b.code (code_in (x ∷ bs) p q)
@@ -61,16 +61,16 @@ codeIn-last (x ∷ bs) b p q h = pick (joins p q x) (joins p q b) refl refl (cod
     pick false z e f ih = rw e (ih (let i = simp e at h in omega arith))
 
 -- nothing joins where nothing is counted
-codeIn-none : (bs : List Bond) (p q : ℕ) → count (map (joins p q) bs) ≡ 0 → code_in bs p q ≡ 0
-codeIn-none [] p q h = refl
-codeIn-none (x ∷ bs) p q h = pick (joins p q x) refl (codeIn-none bs p q)
+code_in-none : (bs : List Bond) (p q : ℕ) → count (map (joins p q) bs) ≡ 0 → code_in bs p q ≡ 0
+code_in-none [] p q h = refl
+code_in-none (x ∷ bs) p q h = pick (joins p q x) refl (code_in-none bs p q)
   where
     pick : (y : Bool) → joins p q x ≡ y → (count (map (joins p q) bs) ≡ 0 → code_in bs p q ≡ 0) → code_in (x ∷ bs) p q ≡ 0
     pick true e ih = absurd (let i = simp e at h in omega arith)
     pick false e ih = rw e (ih (let i = simp e at h in omega arith))
 
-abbrev noBond : Bond
-noBond = record { one = 0; two = 0; code = 0 }
+abbrev no_bond : Bond
+no_bond = record { one = 0; two = 0; code = 0 }
 
 module _ (s : rules.State) where
   abbrev n : ℕ
@@ -78,22 +78,22 @@ module _ (s : rules.State) where
 
   -- the place of an atom, and the number of the atom at a place
   abbrev place : ℕ → ℕ
-  place a = get_or (heaviesTo s (length s.kinds)) a 0
+  place a = get_or (heavies_to s (length s.kinds)) a 0
 
   abbrev number : ℕ → ℕ
-  number x = length (heaviesTo s x)
+  number x = length (heavies_to s x)
 
   pub record LinkedTo (k : ℕ) (M : Molecule) : Type 0 where
-    pub size : M.size ≡ length (heaviesTo s (length s.kinds))
-    pub label : (a : ℕ) → a < M.size → M.label a ≡ get_or s.kinds (place a) 0 ∷ hydrogensOn s (place a) ∷ []
+    pub size : M.size ≡ length (heavies_to s (length s.kinds))
+    pub label : (a : ℕ) → a < M.size → M.label a ≡ get_or s.kinds (place a) 0 ∷ hydrogens_on s (place a) ∷ []
     pub code : (a b : ℕ) → a < M.size → b < M.size → M.code a b ≡ code_in (take k s.bonds) (place a) (place b)
-    pub degree : (a : ℕ) → a < M.size → length (neighbours M a) ≡ count (map (λ b. on (place a) b && not (toH s b)) (take k s.bonds))
+    pub degree : (a : ℕ) → a < M.size → length (neighbours M a) ≡ count (map (λ b. on (place a) b && not (to_h s b)) (take k s.bonds))
 
   pub linked-start : (M : Molecule) → BareTo s (length s.kinds) M → LinkedTo 0 M
   linked-start M B = record { size = B.size; label = B.label; code = B.code; degree = B.none }
 
   pub linked-end : (M : Molecule) (k : ℕ) → k ≡ length s.bonds → LinkedTo k M → Renumbered (λ a. a) (folded s) M
-  unfolding folded heavyPlaces
+  unfolding folded heavy_places
   linked-end M k e L =
       record {
         size = L.size;
@@ -103,10 +103,10 @@ module _ (s : rules.State) where
       }
 
   -- the number of an atom's place is the atom
-  number-eq : (x a : ℕ) → x < length s.kinds → isH s x ≡ false → a < length (heaviesTo s (length s.kinds)) → eqb (number x) a ≡ eqb x (place a)
+  number-eq : (x a : ℕ) → x < length s.kinds → is_h s x ≡ false → a < length (heavies_to s (length s.kinds)) → eqb (number x) a ≡ eqb x (place a)
   number-eq x a h e l = pick (eqb x (place a)) refl
     where
-      at : (number x < length (heaviesTo s (length s.kinds))) × (place (number x) ≡ x)
+      at : (number x < length (heavies_to s (length s.kinds))) × (place (number x) ≡ x)
       at = kept_at (heavy s) (length s.kinds) x h (rw e)
 
       of : Kept (heavy s) (length s.kinds) a
@@ -121,32 +121,32 @@ module _ (s : rules.State) where
     b = get_or s.bonds k (record { one = 0; two = 0; code = 0 })
 
     abbrev c : Bond
-    c = bondOf (number b.one) (number b.two) b.code
+    c = bond_of (number b.one) (number b.two) b.code
 
     proper : Proper s.kinds b
-    proper = all-mem (Proper s.kinds) s.bonds T.proper b (getD-mem s.bonds k noBond h)
+    proper = all_mem (Proper s.kinds) s.bonds T.proper b (get_or-mem s.bonds k no_bond h)
 
     one_more : take (k + 1) s.bonds ≡ take k s.bonds ++ (b ∷ [])
-    one_more = rw (add-one k) (take-suc s.bonds k noBond h)
+    one_more = rw (add-one k) (take-suc s.bonds k no_bond h)
 
     once : (p q : ℕ) → count (map (joins p q) (take k s.bonds ++ (b ∷ []))) ≤ 1
     once p q = rw (← one_more) (omega (arith, count-part (joins p q) s.bonds (k + 1), T.once p q))
 
     module _ (M : Molecule) (L : LinkedTo k M) where
-      inside : (a : ℕ) → a < M.size → a < length (heaviesTo s (length s.kinds))
+      inside : (a : ℕ) → a < M.size → a < length (heavies_to s (length s.kinds))
       inside a l = omega (arith, L.size)
 
-      heavy-at : (a : ℕ) → a < M.size → isH s (place a) ≡ false
+      heavy-at : (a : ℕ) → a < M.size → is_h s (place a) ≡ false
       heavy-at a l = not-true _ (kept_of (heavy s) (length s.kinds) a (inside a l)).passes
 
       -- a bond to an H is between no two atoms
-      apart_from : (x y : ℕ) → toH s b ≡ true → isH s x ≡ false → isH s y ≡ false → joins x y b ≡ false
+      apart_from : (x y : ℕ) → to_h s b ≡ true → is_h s x ≡ false → is_h s y ≡ false → joins x y b ≡ false
       apart_from x y e f g = pick (joins x y b) refl
         where
-          never : {A : Type 0} → (toH s b ≡ false) → A
+          never : {A : Type 0} → (to_h s b ≡ false) → A
           never q = absurd (let z : ◌≡◌ {A = Bool} true false = sym e ∙ q in let w : ◌≡◌ {A = ℕ} 0 1 = cc in omega arith)
 
-          ends : ((b.one ≡ x) × (b.two ≡ y)) ⊎ ((b.one ≡ y) × (b.two ≡ x)) → toH s b ≡ false
+          ends : ((b.one ≡ x) × (b.two ≡ y)) ⊎ ((b.one ≡ y) × (b.two ≡ x)) → to_h s b ≡ false
           ends (inl z) = rw (z.0, z.1, f, g)
           ends (inr z) = rw (z.0, z.1, f, g)
 
@@ -154,25 +154,25 @@ module _ (s : rules.State) where
           pick true q = never (ends (joins-ends x y b q))
           pick false q = q
 
-      skipped : (M' : Molecule) → toH s b ≡ true → M' ≡ M → LinkedTo (k + 1) M'
+      skipped : (M' : Molecule) → to_h s b ≡ true → M' ≡ M → LinkedTo (k + 1) M'
       skipped M' e q =
           rw q (record {
             size = L.size;
             label = L.label;
             code = λ x y l j.
-                L.code x y l j ∙ sym (ap (λ (bs : List Bond). code_in bs (place x) (place y)) one_more ∙ codeIn-last (take k s.bonds) b (place x) (place y) (once (place x) (place y))
+                L.code x y l j ∙ sym (ap (λ (bs : List Bond). code_in bs (place x) (place y)) one_more ∙ code_in-last (take k s.bonds) b (place x) (place y) (once (place x) (place y))
                 ∙ rw (apart_from (place x) (place y) e (heavy-at x l) (heavy-at y j)));
             degree = λ x l.
-                L.degree x l ∙ sym (ap (λ (bs : List Bond). count (map (λ d. on (place x) d && not (toH s d)) bs)) one_more
-                ∙ count-snoc (λ d. on (place x) d && not (toH s d)) (take k s.bonds) b ∙ rw (e, and-false (on (place x) b), add-zero (count (map (λ d. on (place x) d && not (toH s d)) (take k s.bonds)))));
+                L.degree x l ∙ sym (ap (λ (bs : List Bond). count (map (λ d. on (place x) d && not (to_h s d)) bs)) one_more
+                ∙ count-snoc (λ d. on (place x) d && not (to_h s d)) (take k s.bonds) b ∙ rw (e, and-false (on (place x) b), add-zero (count (map (λ d. on (place x) d && not (to_h s d)) (take k s.bonds)))));
           })
 
-      module _ (e₁ : isH s b.one ≡ false) (e₂ : isH s b.two ≡ false) where
-        light : toH s b ≡ false
+      module _ (e₁ : is_h s b.one ≡ false) (e₂ : is_h s b.two ≡ false) where
+        light : to_h s b ≡ false
         light = rw (e₁, e₂)
 
-        same-joins : (x y : ℕ) → x < M.size → y < M.size → joins x y c ≡ joins (place x) (place y) b
-        same-joins x y l j =
+        same_joins : (x y : ℕ) → x < M.size → y < M.size → joins x y c ≡ joins (place x) (place y) b
+        same_joins x y l j =
             rw (
               number-eq b.one x proper.one e₁ (inside x l),
               number-eq b.two y proper.two e₂ (inside y j),
@@ -180,8 +180,8 @@ module _ (s : rules.State) where
               number-eq b.two x proper.two e₂ (inside x l),
             )
 
-        same-on : (x : ℕ) → x < M.size → on x c ≡ on (place x) b
-        same-on x l = rw (number-eq b.one x proper.one e₁ (inside x l), number-eq b.two x proper.two e₂ (inside x l))
+        same_on : (x : ℕ) → x < M.size → on x c ≡ on (place x) b
+        same_on x l = rw (number-eq b.one x proper.one e₁ (inside x l), number-eq b.two x proper.two e₂ (inside x l))
 
         linked : (M' : Molecule) → Joined M c M' → LinkedTo (k + 1) M'
         linked M' J =
@@ -191,19 +191,19 @@ module _ (s : rules.State) where
               code = λ x y l j.
                   let u : x < M.size = omega (arith, J.size) in
                   let v : y < M.size = omega (arith, J.size) in
-                  J.code x y u v ∙ rw (same-joins x y u v, L.code x y u v)
-                  (sym (ap (λ (bs : List Bond). code_in bs (place x) (place y)) one_more ∙ codeIn-last (take k s.bonds) b (place x) (place y) (once (place x) (place y))));
+                  J.code x y u v ∙ rw (same_joins x y u v, L.code x y u v)
+                  (sym (ap (λ (bs : List Bond). code_in bs (place x) (place y)) one_more ∙ code_in-last (take k s.bonds) b (place x) (place y) (once (place x) (place y))));
               degree = λ x l.
                   let u : x < M.size = omega (arith, J.size) in
-                  J.degree x u ∙ rw (same-on x u, L.degree x u)
-                  (sym (ap (λ (bs : List Bond). count (map (λ d. on (place x) d && not (toH s d)) bs)) one_more
-                  ∙ count-snoc (λ d. on (place x) d && not (toH s d)) (take k s.bonds) b ∙ rw (light, and-true (on (place x) b))));
+                  J.degree x u ∙ rw (same_on x u, L.degree x u)
+                  (sym (ap (λ (bs : List Bond). count (map (λ d. on (place x) d && not (to_h s d)) bs)) one_more
+                  ∙ count-snoc (λ d. on (place x) d && not (to_h s d)) (take k s.bonds) b ∙ rw (light, and-true (on (place x) b))));
             }
 
-        at_one : (number b.one < length (heaviesTo s (length s.kinds))) × (place (number b.one) ≡ b.one)
+        at_one : (number b.one < length (heavies_to s (length s.kinds))) × (place (number b.one) ≡ b.one)
         at_one = kept_at (heavy s) (length s.kinds) b.one proper.one (rw e₁)
 
-        at-two : (number b.two < length (heaviesTo s (length s.kinds))) × (place (number b.two) ≡ b.two)
+        at-two : (number b.two < length (heavies_to s (length s.kinds))) × (place (number b.two) ≡ b.two)
         at-two = kept_at (heavy s) (length s.kinds) b.two proper.two (rw e₂)
 
         before : count (map (joins b.one b.two) (take k s.bonds)) ≡ 0
@@ -213,21 +213,21 @@ module _ (s : rules.State) where
             let y = simp (joins-self b.one b.two b.code) at z in
             omega arith
 
-        room_at : Room s → (x : ℕ) → on x b ≡ true → count (map (λ d. on x d && not (toH s d)) (take k s.bonds)) < 6
+        room_at : Room s → (x : ℕ) → on x b ≡ true → count (map (λ d. on x d && not (to_h s d)) (take k s.bonds)) < 6
         room_at m x o =
-            omega (arith, m.bondsAt x, count-take (λ d. on x d && not (toH s d)) s.bonds k noBond h (rw (o, light)))
+            omega (arith, m.bonds_at x, count-take (λ d. on x d && not (to_h s d)) s.bonds k no_bond h (rw (o, light)))
 
         joinable : Room s → Joinable M c
         joinable m =
             let i : number b.one < M.size = omega (arith, at_one.0, L.size) in
             let j : number b.two < M.size = omega (arith, at-two.0, L.size) in
-            let first : M.code (number b.one) (number b.two) ≡ 0 = L.code _ _ i j ∙ rw (at_one.1, at-two.1) (codeIn-none (take k s.bonds) b.one b.two before) in
+            let first : M.code (number b.one) (number b.two) ≡ 0 = L.code _ _ i j ∙ rw (at_one.1, at-two.1) (code_in-none (take k s.bonds) b.one b.two before) in
             record {
               one = i;
               two = j;
               apart = λ q. proper.apart (sym at_one.1 ∙ ap place q ∙ at-two.1);
               first = first;
-              back = L.code _ _ j i ∙ codeIn-swap (take k s.bonds) (place (number b.two)) (place (number b.one)) ∙ sym (L.code _ _ i j) ∙ first;
+              back = L.code _ _ j i ∙ code_in-swap (take k s.bonds) (place (number b.two)) (place (number b.one)) ∙ sym (L.code _ _ i j) ∙ first;
               room-one = rw (L.degree _ i, at_one.1) (room_at m b.one (rw (eq-eqb b.one b.one refl)));
               room-two = rw (L.degree _ j, at-two.1) (room_at m b.two (rw (eq-eqb b.two b.two refl, or-true)));
               some = proper.mark.0;
@@ -239,29 +239,29 @@ module _ (s : rules.State) where
         heavy-by : {p q : ℕ} → p ≡ q → (p ≡ 0 → ⊥) → eqb q 0 ≡ false
         heavy-by e z = ne_eqb _ 0 (λ w. z (e ∙ w))
 
-        pub link_fits : Room s → (kx ≡ 0 → ⊥) → (ky ≡ 0 → ⊥) → Joinable M (bondOf x y m)
+        pub link_fits : Room s → (kx ≡ 0 → ⊥) → (ky ≡ 0 → ⊥) → Joinable M (bond_of x y m)
         link_fits r u v = rw (nx, ny, em) (joinable (heavy-by ex u) (heavy-by ey v) r)
 
         -- with an H at an end nothing is to be done, else the bond is to be added
-        pub link-step : {P : Type 0} → ((kx ≡ 0) ⊎ (ky ≡ 0) → LinkedTo (k + 1) M → P)
-            → ((kx ≡ 0 → ⊥) → (ky ≡ 0 → ⊥) → ((M' : Molecule) → Joined M (bondOf x y m) M' → LinkedTo (k + 1) M') → P) → P
-        link-step {P} none some = pick (isH s b.one) (isH s b.two) refl refl
+        pub link_step : {P : Type 0} → ((kx ≡ 0) ⊎ (ky ≡ 0) → LinkedTo (k + 1) M → P)
+            → ((kx ≡ 0 → ⊥) → (ky ≡ 0 → ⊥) → ((M' : Molecule) → Joined M (bond_of x y m) M' → LinkedTo (k + 1) M') → P) → P
+        link_step {P} none some = pick (is_h s b.one) (is_h s b.two) refl refl
           where
-            pick : (u v : Bool) → isH s b.one ≡ u → isH s b.two ≡ v → P
+            pick : (u v : Bool) → is_h s b.one ≡ u → is_h s b.two ≡ v → P
             pick true v e f = none (inl (ex ∙ eqb-true _ _ e)) (skipped M (rw e) refl)
             pick false true e f = none (inr (ey ∙ eqb-true _ _ f)) (skipped M (rw (f, or-true)) refl)
             pick false false e f =
                 some (λ z. eqb-false _ _ e (sym ex ∙ z)) (λ z. eqb-false _ _ f (sym ey ∙ z))
-                (λ M' J. linked e f M' (subst (λ (d : Bond). Joined M d M') (λ i. bondOf (nx i) (ny i) (em i)) J))
+                (λ M' J. linked e f M' (subst (λ (d : Bond). Joined M d M') (λ i. bond_of (nx i) (ny i) (em i)) J))
 
 -- a state's bond, with the numbers of its atoms
 module _ (st : State) (H : Held st) (k : ℕ) (h : k < st.drawn) (x y : ℕ) (ex : x ≡ get_or st.one k 0) (ey : y ≡ get_or st.two k 0)
-    (numbers : List ℕ) (N : (q : ℕ) → q < st.n → get_or numbers q 0 ≡ length (heaviesTo (view_of st) q)) where
+    (numbers : List ℕ) (N : (q : ℕ) → q < st.n → get_or numbers q 0 ≡ length (heavies_to (view_of st) q)) where
   abbrev v : rules.State
   v = view_of st
 
-  bond-is : get_or (view_of st).bonds k (record { one = 0; two = 0; code = 0 }) ≡ bondAt st k
-  bond-is = getD-each st.drawn (bondAt st) k (record { one = 0; two = 0; code = 0 }) h
+  bond-is : get_or (view_of st).bonds k (record { one = 0; two = 0; code = 0 }) ≡ bond_at st k
+  bond-is = get_or-each st.drawn (bond_at st) k (record { one = 0; two = 0; code = 0 }) h
 
   tidy-view : Tidy (view_of st).kinds (view_of st).bonds
   tidy-view = (reached-reader (view_of st) H.reached).tidy
@@ -269,45 +269,45 @@ module _ (st : State) (H : Held st) (k : ℕ) (h : k < st.drawn) (x y : ℕ) (ex
   later : k < length (view_of st).bonds
   later = omega (arith, view-bonds st)
 
-  x-is : x ≡ (get_or (view_of st).bonds k (record { one = 0; two = 0; code = 0 })).one
-  x-is = ex ∙ ap (λ (d : Bond). d.one) (sym bond-is)
+  x_is : x ≡ (get_or (view_of st).bonds k (record { one = 0; two = 0; code = 0 })).one
+  x_is = ex ∙ ap (λ (d : Bond). d.one) (sym bond-is)
 
-  y-is : y ≡ (get_or (view_of st).bonds k (record { one = 0; two = 0; code = 0 })).two
-  y-is = ey ∙ ap (λ (d : Bond). d.two) (sym bond-is)
+  y_is : y ≡ (get_or (view_of st).bonds k (record { one = 0; two = 0; code = 0 })).two
+  y_is = ey ∙ ap (λ (d : Bond). d.two) (sym bond-is)
 
   pub low-one : x < st.n
-  low-one = let p = (proper (view_of st) tidy-view k later).one in omega (arith, x-is, view_places st H.tallied)
+  low-one = let p = (proper (view_of st) tidy-view k later).one in omega (arith, x_is, view_places st H.tallied)
 
   pub low-two : y < st.n
-  low-two = let p = (proper (view_of st) tidy-view k later).two in omega (arith, y-is, view_places st H.tallied)
+  low-two = let p = (proper (view_of st) tidy-view k later).two in omega (arith, y_is, view_places st H.tallied)
 
   kind-one : get_or st.kinds x 0 ≡ get_or (view_of st).kinds (get_or (view_of st).bonds k (record { one = 0; two = 0; code = 0 })).one 0
-  kind-one = sym (view-kind st x low-one) ∙ ap (λ (p : ℕ). get_or (view_of st).kinds p 0) x-is
+  kind-one = sym (view-kind st x low-one) ∙ ap (λ (p : ℕ). get_or (view_of st).kinds p 0) x_is
 
   kind-two : get_or st.kinds y 0 ≡ get_or (view_of st).kinds (get_or (view_of st).bonds k (record { one = 0; two = 0; code = 0 })).two 0
-  kind-two = sym (view-kind st y low-two) ∙ ap (λ (p : ℕ). get_or (view_of st).kinds p 0) y-is
+  kind-two = sym (view-kind st y low-two) ∙ ap (λ (p : ℕ). get_or (view_of st).kinds p 0) y_is
 
-  number-one : get_or numbers x 0 ≡ length (heaviesTo (view_of st) (get_or (view_of st).bonds k (record { one = 0; two = 0; code = 0 })).one)
-  number-one = N x low-one ∙ ap (λ (p : ℕ). length (heaviesTo (view_of st) p)) x-is
+  number-one : get_or numbers x 0 ≡ length (heavies_to (view_of st) (get_or (view_of st).bonds k (record { one = 0; two = 0; code = 0 })).one)
+  number-one = N x low-one ∙ ap (λ (p : ℕ). length (heavies_to (view_of st) p)) x_is
 
-  number-two : get_or numbers y 0 ≡ length (heaviesTo (view_of st) (get_or (view_of st).bonds k (record { one = 0; two = 0; code = 0 })).two)
-  number-two = N y low-two ∙ ap (λ (p : ℕ). length (heaviesTo (view_of st) p)) y-is
+  number-two : get_or numbers y 0 ≡ length (heavies_to (view_of st) (get_or (view_of st).bonds k (record { one = 0; two = 0; code = 0 })).two)
+  number-two = N y low-two ∙ ap (λ (p : ℕ). length (heavies_to (view_of st) p)) y_is
 
   code_is : get_or st.code k 0 ≡ (get_or (view_of st).bonds k (record { one = 0; two = 0; code = 0 })).code
   code_is = ap (λ (d : Bond). d.code) (sym bond-is)
 
-  module _ (t : Table) (T : TidyTable t) (L : LinkedTo (view_of st) k (moleculeOf t)) where
-    joins_at : (get_or st.kinds x 0 ≡ 0 → ⊥) → (get_or st.kinds y 0 ≡ 0 → ⊥) → Joinable (moleculeOf t) (bondOf (get_or numbers x 0) (get_or numbers y 0) (get_or st.code k 0))
-    joins_at = link_fits (view_of st) tidy-view k later (moleculeOf t) L _ _ _ _ _ kind-one kind-two number-one number-two code_is (reached-room (view_of st) H.reached)
+  module _ (t : Table) (T : TidyTable t) (L : LinkedTo (view_of st) k (molecule_of t)) where
+    joins_at : (get_or st.kinds x 0 ≡ 0 → ⊥) → (get_or st.kinds y 0 ≡ 0 → ⊥) → Joinable (molecule_of t) (bond_of (get_or numbers x 0) (get_or numbers y 0) (get_or st.code k 0))
+    joins_at = link_fits (view_of st) tidy-view k later (molecule_of t) L _ _ _ _ _ kind-one kind-two number-one number-two code_is (reached-room (view_of st) H.reached)
 
-    pub fold-fits : Linkable (rows_of (arraysOf t)) (get_or st.kinds x 0) (get_or st.kinds y 0) (get_or numbers x 0) (get_or numbers y 0)
-    fold-fits u v = bond-roomy (arraysOf t) T (get_or numbers x 0) (get_or numbers y 0) (get_or st.code k 0) (joins_at u v)
+    pub fold_fits : Linkable (rows_of (arrays_of t)) (get_or st.kinds x 0) (get_or st.kinds y 0) (get_or numbers x 0) (get_or numbers y 0)
+    fold_fits u v = bond-roomy (arrays_of t) T (get_or numbers x 0) (get_or numbers y 0) (get_or st.code k 0) (joins_at u v)
 
-    pub fold_step : (R : RowArrays) → Links (rows_of (arraysOf t)) (get_or st.kinds x 0) (get_or st.kinds y 0) (get_or numbers x 0) (get_or numbers y 0) (get_or st.code k 0) R
-        → TidyTable (rowed t R) × LinkedTo (view_of st) (k + 1) (moleculeOf (rowed t R))
+    pub fold_step : (R : RowArrays) → Links (rows_of (arrays_of t)) (get_or st.kinds x 0) (get_or st.kinds y 0) (get_or numbers x 0) (get_or numbers y 0) (get_or st.code k 0) R
+        → TidyTable (rowed t R) × LinkedTo (view_of st) (k + 1) (molecule_of (rowed t R))
     fold_step R K =
-        link-step (view_of st) tidy-view k later (moleculeOf t) L _ _ _ _ _ kind-one kind-two number-one number-two code_is
-        (λ z l. subst (λ (Q : RowArrays). TidyTable (rowed t Q) × LinkedTo (view_of st) (k + 1) (moleculeOf (rowed t Q))) (sym (⊎_elim K.one K.two z)) (T, l))
+        link_step (view_of st) tidy-view k later (molecule_of t) L _ _ _ _ _ kind-one kind-two number-one number-two code_is
+        (λ z l. subst (λ (Q : RowArrays). TidyTable (rowed t Q) × LinkedTo (view_of st) (k + 1) (molecule_of (rowed t Q))) (sym (⊎_elim K.one K.two z)) (T, l))
         (λ u v f.
-        let w = bond-joins (arraysOf t) T (get_or numbers x 0) (get_or numbers y 0) (get_or st.code k 0) (joins_at u v) R (K.bond u v) in
-        (w.0, f (moleculeOf (rowed t R)) w.1))
+        let w = bond-joins (arrays_of t) T (get_or numbers x 0) (get_or numbers y 0) (get_or st.code k 0) (joins_at u v) R (K.bond u v) in
+        (w.0, f (molecule_of (rowed t R)) w.1))

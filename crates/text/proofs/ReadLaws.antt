@@ -9,7 +9,7 @@ use lib.Seq.{drop-cons, drop-drop}
 use Rattle.sling.specs.Items.{Item}
 use Rattle.sling.specs.Scanned.{Token, tok, got, broken, scan, token, tokens}
 use Rattle.sling.specs.Reading.{State, after}
-use Rattle.sling.specs.Faults.{stopped, finished, judged, run, itemFault}
+use Rattle.sling.specs.Faults.{stopped, finished, judged, run, item_fault}
 
 -- passing over bytes
 skip : (l : List ℕ) (k o : ℕ) → tokens l k o ≡ tokens (drop k l) 0 (o + k)
@@ -34,18 +34,18 @@ module _ (s : List ℕ) (i : ℕ) (h : i < length s) where
         let f : suc i + (next - i - 1) ≡ next = omega arith in
         opened ∙ rw (e, skip (drop (suc i) s) (next - i - 1) (suc i), drop-drop (next - i - 1) (suc i) s, f)
 
-    at_item : (S : State) → run (tokens (drop i s) 0 i) S ≡ judged (itemFault S it) i (after S it) (run (tokens (drop next s) 0 next))
+    at_item : (S : State) → run (tokens (drop i s) 0 i) S ≡ judged (item_fault S it) i (after S it) (run (tokens (drop next s) 0 next))
     unfolding run
     at_item S = ap (λ (ts : List Token). run ts S) cut
 
-    pub run-fault : (S S' : State) (f : ℕ) → f ≡ itemFault S it → (f ≡ 0 → ⊥) → judged f i S' finished ≡ run (tokens (drop i s) 0 i) S
+    pub run-fault : (S S' : State) (f : ℕ) → f ≡ item_fault S it → (f ≡ 0 → ⊥) → judged f i S' finished ≡ run (tokens (drop i s) 0 i) S
     run-fault S S' f q n = other f q n ∙ sym (at_item S)
       where
-        other : (f : ℕ) → f ≡ itemFault S it → (f ≡ 0 → ⊥) → judged f i S' finished ≡ judged (itemFault S it) i (after S it) (run (tokens (drop next s) 0 next))
+        other : (f : ℕ) → f ≡ item_fault S it → (f ≡ 0 → ⊥) → judged f i S' finished ≡ judged (item_fault S it) i (after S it) (run (tokens (drop next s) 0 next))
         other zero q n = absurd (n refl)
         other (suc f) q n = rw (← q)
 
-    pub run-next : (S : State) → itemFault S it ≡ 0 → run (tokens (drop next s) 0 next) (after S it) ≡ run (tokens (drop i s) 0 i) S
+    pub run-next : (S : State) → item_fault S it ≡ 0 → run (tokens (drop next s) 0 next) (after S it) ≡ run (tokens (drop i s) 0 i) S
     run-next S z = sym (at_item S ∙ rw z)
 
 pub run_end : (s : List ℕ) (i : ℕ) (S : State) → length s ≤ i → finished S ≡ run (tokens (drop i s) 0 i) S

@@ -9,17 +9,17 @@ use lib.ListN.{length, get_or, drop, length-drop, drop_of_length-le}
 use lib.Seq.{drop-cons}
 use lib.Dec.{eqb}
 use borrow.Author.Tests.{lt-ltb, le-ltb, eq-eqb, ne_eqb}
-use Rattle.molecule.specs.Kinds.{kindOfSymbol}
+use Rattle.molecule.specs.Kinds.{kind_of_symbol}
 use Rattle.sling.specs.Items as rule
 use Rattle.sling.specs.Scanned as rules
-use Rattle.sling.specs.Scanned.{isCapital, isSmall, mark_of, smallFirst, number_at, target, bracketed, body, scan}
+use Rattle.sling.specs.Scanned.{is_capital, is_small, mark_of, small_first, number_at, target, bracketed, body, scan}
 use Rattle.text.specs.declared.item.Target.TheVariants.{At, Up}
 use Rattle.text.specs.declared.item.Item.TheVariants.{Atom}
 use Rattle.text.specs.declared.item.Scanned.{Scanned}
 use Rattle.text.specs.declared.item.Scanned.TheVariants.{Got, Broken}
 use Rattle.text.specs.declared.target.Aim.{Aim}
 use Rattle.text.specs.declared.target.Aim.TheVariants.{Found, Astray}
-use Rattle.text.specs.Scanning.{target_of, item_of, aimedOf, behind, scannedOf, Ahead, Sane, Placed, Stepped, Aims, startsTarget, referenceOf, ringOf, Brackets, Bodies, Scans}
+use Rattle.text.specs.Scanning.{target_of, item_of, aimed_of, behind, scanned_of, Ahead, Sane, Placed, Stepped, Aims, starts_target, reference_of, ring_of, Brackets, Bodies, Scans}
 
 -- the byte at an offset, and what follows it
 here : (s : List ℕ) (at : ℕ) → at < length s → drop at s ≡ get_or s at 0 ∷ drop (at + 1) s
@@ -32,24 +32,24 @@ module _ (s : List ℕ) (at : ℕ) where
   pub place_found : (v n : ℕ) → 0 < n → number_at (drop at s) ≡ rules.number v n → Placed s at (Found (At (record { 0 = v })) (at + n))
   place_found v n h e = record { is = λ k f. rw e (ap (λ (x : ℕ). rules.got (f (rule.at v)) (k + x)) (omega arith)); ahead = omega arith }
 
-  pub step-none : number_at (drop at s) ≡ rules.none → Stepped s at Astray
-  step-none e = record { is = λ k f. rw e; ahead = tt }
+  pub step_none : number_at (drop at s) ≡ rules.none → Stepped s at Astray
+  step_none e = record { is = λ k f. rw e; ahead = tt }
 
-  pub step-zero : (v n : ℕ) → v ≡ 0 → number_at (drop at s) ≡ rules.number v n → Stepped s at Astray
-  step-zero v n z e = record { is = λ k f. rw (e, z); ahead = tt }
+  pub step_zero : (v n : ℕ) → v ≡ 0 → number_at (drop at s) ≡ rules.number v n → Stepped s at Astray
+  step_zero v n z e = record { is = λ k f. rw (e, z); ahead = tt }
 
-  pub step-found : (v n : ℕ) → (v ≡ 0 → ⊥) → 0 < n → number_at (drop at s) ≡ rules.number v n → Stepped s at (Found (Up v) (at + n))
-  step-found zero n z h e = absurd (z refl)
-  step-found (suc v) n z h e = record { is = λ k f. rw e (ap (λ (x : ℕ). rules.got (f (rule.up (suc v))) (k + x)) (omega arith)); ahead = omega arith }
+  pub step_found : (v n : ℕ) → (v ≡ 0 → ⊥) → 0 < n → number_at (drop at s) ≡ rules.number v n → Stepped s at (Found (Up v) (at + n))
+  step_found zero n z h e = absurd (z refl)
+  step_found (suc v) n z h e = record { is = λ k f. rw e (ap (λ (x : ℕ). rules.got (f (rule.up (suc v))) (k + x)) (omega arith)); ahead = omega arith }
 
   pub target-out : length s ≤ at → Aims s at Astray
   unfolding target
   target-out h = record { is = λ k f. rw (drop_of_length-le s h); ahead = tt }
 
 -- one byte of the item more stands before
-aimed-later : (at k : ℕ) (f : rule.Target → rule.Item) (r : Aim) → Ahead (at + 1) r → aimedOf at k f r ≡ aimedOf (at + 1) (suc k) f r
-aimed-later at k f (Found t next) h = ap (λ (x : ℕ). rules.got (f (target_of t)) x) (omega arith)
-aimed-later at k f Astray h = refl
+aimed_later : (at k : ℕ) (f : rule.Target → rule.Item) (r : Aim) → Ahead (at + 1) r → aimed_of at k f r ≡ aimed_of (at + 1) (suc k) f r
+aimed_later at k f (Found t next) h = ap (λ (x : ℕ). rules.got (f (target_of t)) x) (omega arith)
+aimed_later at k f Astray h = refl
 
 ahead-later : (at : ℕ) (r : Aim) → Ahead (at + 1) r → Ahead at r
 ahead-later at (Found t next) h = omega arith
@@ -60,7 +60,7 @@ module _ (s : List ℕ) (at : ℕ) (h : at < length s) where
   unfolding target
   target-steps r e d =
       record {
-        is = λ k f. aimed-later at k f r d.ahead ∙ d.is (suc k) f ∙ rw (here s at h, eq-eqb _ _ e);
+        is = λ k f. aimed_later at k f r d.ahead ∙ d.is (suc k) f ∙ rw (here s at h, eq-eqb _ _ e);
         ahead = ahead-later at r d.ahead;
       }
 
@@ -69,33 +69,33 @@ module _ (s : List ℕ) (at : ℕ) (h : at < length s) where
   target-place r n d =
       record { is = λ k f. d.is k f ∙ rw (here s at h, ne_eqb _ _ n); ahead = d.ahead }
 
-pub small-out : (s : List ℕ) (at : ℕ) → length s ≤ at → false ≡ smallFirst (drop at s)
+pub small-out : (s : List ℕ) (at : ℕ) → length s ≤ at → false ≡ small_first (drop at s)
 small-out s at h = rw (drop_of_length-le s h)
 
-pub small-in : (s : List ℕ) (at : ℕ) → at < length s → isSmall (get_or s at 0) ≡ smallFirst (drop at s)
+pub small-in : (s : List ℕ) (at : ℕ) → at < length s → is_small (get_or s at 0) ≡ small_first (drop at s)
 small-in s at h = rw (here s at h)
 
 -- an aim made into an item
-ring-behind : (at k m : ℕ) (a : Aim) → behind at k (ringOf m a) ≡ aimedOf at k (rule.ring m) a
+ring-behind : (at k m : ℕ) (a : Aim) → behind at k (ring_of m a) ≡ aimed_of at k (rule.ring m) a
 ring-behind at k m (Found t next) = refl
 ring-behind at k m Astray = refl
 
-ring-sane : (at m : ℕ) (a : Aim) → 0 < m → m ≤ 4 → Ahead (at + 1) a → Sane at (ringOf m a)
+ring-sane : (at m : ℕ) (a : Aim) → 0 < m → m ≤ 4 → Ahead (at + 1) a → Sane at (ring_of m a)
 ring-sane at m (Found t next) p q h = (omega arith, p, q)
 ring-sane at m Astray p q h = tt
 
-reference-scanned : (at : ℕ) (a : Aim) → scannedOf at (referenceOf a) ≡ aimedOf at 0 rule.reference a
+reference-scanned : (at : ℕ) (a : Aim) → scanned_of at (reference_of a) ≡ aimed_of at 0 rule.reference a
 reference-scanned at (Found t next) = ap (λ (x : ℕ). rules.got (rule.reference (target_of t)) x) (omega arith)
 reference-scanned at Astray = refl
 
-reference-sane : (at : ℕ) (a : Aim) → Ahead at a → Sane at (referenceOf a)
+reference-sane : (at : ℕ) (a : Aim) → Ahead at a → Sane at (reference_of a)
 reference-sane at (Found t next) h = (h, omega arith, omega arith)
 reference-sane at Astray h = tt
 
 module _ (s : List ℕ) (at m : ℕ) (p : 0 < m) (q : m ≤ 4) where
-  pub bracket-short : at < length s → length s - at ≤ 3 → Brackets s at m Broken
+  pub bracket_short : at < length s → length s - at ≤ 3 → Brackets s at m Broken
   unfolding bracketed
-  bracket-short h k = record { is = λ j. pick (drop (at + 1) s) j few; sane = tt }
+  bracket_short h k = record { is = λ j. pick (drop (at + 1) s) j few; sane = tt }
     where
       few : length (drop (at + 1) s) ≤ 2
       few = omega (arith, length-drop (at + 1) s)
@@ -117,14 +117,14 @@ module _ (s : List ℕ) (at m : ℕ) (p : 0 < m) (q : m ≤ 4) where
         let g : at + 3 + 1 ≡ at + 4 = omega arith in
         a ∙ rw (e, b, f, c, g)
 
-    pub bracket-bad : (isCapital (get_or s (at + 1) 0) && isSmall (get_or s (at + 2) 0) && eqb (get_or s (at + 3) 0) 41) ≡ false → Brackets s at m Broken
+    pub bracket_bad : (is_capital (get_or s (at + 1) 0) && is_small (get_or s (at + 2) 0) && eqb (get_or s (at + 3) 0) 41) ≡ false → Brackets s at m Broken
     unfolding bracketed
-    bracket-bad e = record { is = λ k. rw (three, e); sane = tt }
+    bracket_bad e = record { is = λ k. rw (three, e); sane = tt }
 
-    pub bracket-good : (kind : ℕ) → kind ≡ kindOfSymbol (get_or s (at + 1) 0 ∷ get_or s (at + 2) 0 ∷ [])
-        → (isCapital (get_or s (at + 1) 0) && isSmall (get_or s (at + 2) 0) && eqb (get_or s (at + 3) 0) 41) ≡ true → Brackets s at m (Got (Atom m kind) (at + 4))
+    pub bracket_good : (kind : ℕ) → kind ≡ kind_of_symbol (get_or s (at + 1) 0 ∷ get_or s (at + 2) 0 ∷ [])
+        → (is_capital (get_or s (at + 1) 0) && is_small (get_or s (at + 2) 0) && eqb (get_or s (at + 3) 0) 41) ≡ true → Brackets s at m (Got (Atom m kind) (at + 4))
     unfolding bracketed
-    bracket-good kind w e =
+    bracket_good kind w e =
         record {
           is = λ k. let x : k + (at + 4 - at) ≡ k + 4 = omega arith in rw (three, e, ← w, x);
           sane = (omega arith, p, q);
@@ -135,11 +135,11 @@ module _ (s : List ℕ) (at m : ℕ) (p : 0 < m) (q : m ≤ 4) where
   body-out h = record { is = λ k. rw (drop_of_length-le s h); sane = tt }
 
   module _ (h : at < length s) where
-    pub body-ring : (a : Aim) → get_or s at 0 ≡ 47 → Aims s (at + 1) a → Bodies s at m (ringOf m a)
+    pub body-ring : (a : Aim) → get_or s at 0 ≡ 47 → Aims s (at + 1) a → Bodies s at m (ring_of m a)
     unfolding body
     body-ring a e d =
         record {
-          is = λ k. ring-behind at k m a ∙ aimed-later at k (rule.ring m) a d.ahead ∙ d.is (suc k) (rule.ring m) ∙ rw (here s at h, eq-eqb _ _ e);
+          is = λ k. ring-behind at k m a ∙ aimed_later at k (rule.ring m) a d.ahead ∙ d.is (suc k) (rule.ring m) ∙ rw (here s at h, eq-eqb _ _ e);
           sane = ring-sane at m a p q d.ahead;
         }
 
@@ -147,12 +147,12 @@ module _ (s : List ℕ) (at m : ℕ) (p : 0 < m) (q : m ≤ 4) where
     unfolding body
     body-bracket r n e d = record { is = λ k. d.is k ∙ rw (here s at h, ne_eqb _ _ n, eq-eqb _ _ e); sane = d.sane }
 
-    pub body-bad : (get_or s at 0 ≡ 47 → ⊥) → (get_or s at 0 ≡ 40 → ⊥) → (isCapital (get_or s at 0) && not (smallFirst (drop (at + 1) s))) ≡ false → Bodies s at m Broken
+    pub body-bad : (get_or s at 0 ≡ 47 → ⊥) → (get_or s at 0 ≡ 40 → ⊥) → (is_capital (get_or s at 0) && not (small_first (drop (at + 1) s))) ≡ false → Bodies s at m Broken
     unfolding body
     body-bad n o e = record { is = λ k. rw (here s at h, ne_eqb _ _ n, ne_eqb _ _ o, e); sane = tt }
 
-    pub body-letter : (kind : ℕ) → (get_or s at 0 ≡ 47 → ⊥) → (get_or s at 0 ≡ 40 → ⊥) → (isCapital (get_or s at 0) && not (smallFirst (drop (at + 1) s))) ≡ true
-        → kind ≡ kindOfSymbol (get_or s at 0 ∷ []) → Bodies s at m (Got (Atom m kind) (at + 1))
+    pub body-letter : (kind : ℕ) → (get_or s at 0 ≡ 47 → ⊥) → (get_or s at 0 ≡ 40 → ⊥) → (is_capital (get_or s at 0) && not (small_first (drop (at + 1) s))) ≡ true
+        → kind ≡ kind_of_symbol (get_or s at 0 ∷ []) → Bodies s at m (Got (Atom m kind) (at + 1))
     unfolding body
     body-letter kind n o e w =
         record {
@@ -160,11 +160,11 @@ module _ (s : List ℕ) (at m : ℕ) (p : 0 < m) (q : m ≤ 4) where
           sane = (omega arith, p, q);
         }
 
-behind-later : (at : ℕ) (r : Scanned) → Sane (at + 1) r → scannedOf at r ≡ behind (at + 1) 1 r
+behind-later : (at : ℕ) (r : Scanned) → Sane (at + 1) r → scanned_of at r ≡ behind (at + 1) 1 r
 behind-later at (Got i next) h = ap (λ (x : ℕ). rules.got (item_of i) x) (omega (arith, h.0))
 behind-later at Broken h = refl
 
-behind-none : (at : ℕ) (r : Scanned) → scannedOf at r ≡ behind at 0 r
+behind-none : (at : ℕ) (r : Scanned) → scanned_of at r ≡ behind at 0 r
 behind-none at (Got i next) = ap (λ (x : ℕ). rules.got (item_of i) x) (omega arith)
 behind-none at Broken = refl
 
@@ -172,8 +172,8 @@ sane-later : (at : ℕ) (r : Scanned) → Sane (at + 1) r → Sane at r
 sane-later at (Got i next) h = (omega (arith, h.0), h.1, h.2)
 sane-later at Broken h = tt
 
-scanned-later : (at : ℕ) (a : Aim) → Ahead (at + 1) a → scannedOf at (referenceOf a) ≡ aimedOf (at + 1) 1 rule.reference a
-scanned-later at a h = reference-scanned at a ∙ aimed-later at 0 rule.reference a h
+scanned_later : (at : ℕ) (a : Aim) → Ahead (at + 1) a → scanned_of at (reference_of a) ≡ aimed_of (at + 1) 1 rule.reference a
+scanned_later at a h = reference-scanned at a ∙ aimed_later at 0 rule.reference a h
 
 module _ (s : List ℕ) (at : ℕ) (h : at < length s) where
   pub scan-marked : (m : ℕ) (r : Scanned) → m ≡ mark_of (get_or s at 0) → 1 < m → Bodies s (at + 1) m r → Scans s at r
@@ -185,15 +185,15 @@ module _ (s : List ℕ) (at : ℕ) (h : at < length s) where
       }
 
   module _ (plain : mark_of (get_or s at 0) ≤ 1) where
-    pub scan-plus : (a : Aim) → get_or s at 0 ≡ 43 → Placed s (at + 1) a → Scans s at (referenceOf a)
+    pub scan-plus : (a : Aim) → get_or s at 0 ≡ 43 → Placed s (at + 1) a → Scans s at (reference_of a)
     unfolding scan
     scan-plus a e d =
         record {
-          is = scanned-later at a d.ahead ∙ d.is 1 rule.reference ∙ rw (here s at h, le-ltb _ _ plain, eq-eqb _ _ e);
+          is = scanned_later at a d.ahead ∙ d.is 1 rule.reference ∙ rw (here s at h, le-ltb _ _ plain, eq-eqb _ _ e);
           sane = reference-sane at a (ahead-later at a d.ahead);
         }
 
-    pub scan-target : (a : Aim) → (get_or s at 0 ≡ 43 → ⊥) → startsTarget (get_or s at 0) ≡ true → Aims s at a → Scans s at (referenceOf a)
+    pub scan-target : (a : Aim) → (get_or s at 0 ≡ 43 → ⊥) → starts_target (get_or s at 0) ≡ true → Aims s at a → Scans s at (reference_of a)
     unfolding scan
     scan-target a n e d =
         record {
@@ -201,7 +201,7 @@ module _ (s : List ℕ) (at : ℕ) (h : at < length s) where
           sane = reference-sane at a d.ahead;
         }
 
-    pub scan-body : (r : Scanned) → (get_or s at 0 ≡ 43 → ⊥) → startsTarget (get_or s at 0) ≡ false → Bodies s at 1 r → Scans s at r
+    pub scan-body : (r : Scanned) → (get_or s at 0 ≡ 43 → ⊥) → starts_target (get_or s at 0) ≡ false → Bodies s at 1 r → Scans s at r
     unfolding scan
     scan-body r n e d =
         record {

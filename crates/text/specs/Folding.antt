@@ -4,7 +4,7 @@ use Rattle.lists.specs.Upto.{upto}
 use Rattle.lists.specs.Tests.{keep}
 use Rattle.molecule.specs.Molecule.{Molecule, neighbours}
 use Rattle.sling.specs.Reading as rules
-use Rattle.sling.specs.Reading.{isH, hydrogensOn}
+use Rattle.sling.specs.Reading.{is_h, hydrogens_on}
 use Rattle.table.specs.declared.Table.{Table}
 use Rattle.table.specs.View as table
 use Rattle.table.specs.View.{TidyTable}
@@ -13,8 +13,8 @@ use Rattle.text.specs.declared.state.State.{State}
 use Rattle.text.specs.declared.fold.Bare.{Bare}
 use Rattle.text.specs.Holding.{view_of}
 
-abbrev pub moleculeOf : Table → Molecule
-moleculeOf t = table.view_of t
+abbrev pub molecule_of : Table → Molecule
+molecule_of t = table.view_of t
 
 -- an atom more for a kind that is not H: how many there are, and their kinds and hydrogens
 pub record HeavyPut (n kind h : ℕ) (ks hs : List ℕ) (n' : ℕ) (ks' hs' : List ℕ) : Type 0 where
@@ -23,21 +23,21 @@ pub record HeavyPut (n kind h : ℕ) (ks hs : List ℕ) (n' : ℕ) (ks' hs' : Li
   pub hydrogens : hs' ≡ cond (eqb kind 0) hs (set hs n h)
 
 -- the places below i that have no H
-abbrev pub heaviesTo : rules.State → ℕ → List ℕ
-heaviesTo s i = keep (λ p. not (isH s p)) (upto i)
+abbrev pub heavies_to : rules.State → ℕ → List ℕ
+heavies_to s i = keep (λ p. not (is_h s p)) (upto i)
 
 -- the atoms at them, without bonds
 pub record BareTo (s : rules.State) (i : ℕ) (M : Molecule) : Type 0 where
-  pub size : M.size ≡ length (heaviesTo s i)
-  pub label : (a : ℕ) → a < M.size → M.label a ≡ get_or s.kinds (get_or (heaviesTo s i) a 0) 0 ∷ hydrogensOn s (get_or (heaviesTo s i) a 0) ∷ []
+  pub size : M.size ≡ length (heavies_to s i)
+  pub label : (a : ℕ) → a < M.size → M.label a ≡ get_or s.kinds (get_or (heavies_to s i) a 0) 0 ∷ hydrogens_on s (get_or (heavies_to s i) a 0) ∷ []
   pub code : (a b : ℕ) → a < M.size → b < M.size → M.code a b ≡ 0
   pub none : (a : ℕ) → a < M.size → length (neighbours M a) ≡ 0
 
 pub record Bares (st : State) (r : Bare) : Type 0 where
   pub tidy : TidyTable r.table
-  pub is : BareTo (view_of st) st.n (moleculeOf r.table)
+  pub is : BareTo (view_of st) st.n (molecule_of r.table)
   pub long : length r.numbers ≡ 192
-  pub numbers : (p : ℕ) → p < st.n → get_or r.numbers p 0 ≡ length (heaviesTo (view_of st) p)
+  pub numbers : (p : ℕ) → p < st.n → get_or r.numbers p 0 ≡ length (heavies_to (view_of st) p)
 
 -- there is room for a bond if it is between atoms that are no H, and what the rows are with the bond
 abbrev pub Linkable : RowArrays → (kind other a b : ℕ) → Type 0

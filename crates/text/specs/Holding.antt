@@ -5,35 +5,35 @@ use Rattle.molecule.specs.Bonds.{Bond}
 use Rattle.sling.specs.Items as rule
 use Rattle.sling.specs.Scanned.{tok}
 use Rattle.sling.specs.Reading as rules
-use Rattle.sling.specs.Reading.{drawn, hydrogensOn, bondsOn}
-use Rattle.sling.specs.Faults.{code_of, heavyAtoms, hydrogenAtoms, heavyBonds, itemFault, finished, run}
+use Rattle.sling.specs.Reading.{drawn, hydrogens_on, bonds_on}
+use Rattle.sling.specs.Faults.{code_of, heavy_atoms, hydrogen_atoms, heavy_bonds, item_fault, finished, run}
 use Rattle.text.specs.declared.state.State.{State}
 
-abbrev pub bondAt : State → ℕ → Bond
-bondAt st k = record { one = get_or st.one k 0; two = get_or st.two k 0; code = get_or st.code k 0 }
+abbrev pub bond_at : State → ℕ → Bond
+bond_at st k = record { one = get_or st.one k 0; two = get_or st.two k 0; code = get_or st.code k 0 }
 
 abbrev pub view_of : State → rules.State
 view_of st =
-    record { kinds = take st.n st.kinds; ups = take st.n st.ups; bonds = each st.drawn (bondAt st); cursor = st.cursor.0 }
+    record { kinds = take st.n st.kinds; ups = take st.n st.ups; bonds = each st.drawn (bond_at st); cursor = st.cursor.0 }
 
 -- What a state keeps: the arrays have their lengths, an atom was attached no later than it came, and the counts are the rules'.
 pub record Tallied (st : State) : Type 0 where
   pub places : st.n ≤ 192
   pub drawn : st.drawn ≤ 208
-  pub kindsLong : length st.kinds ≡ 192
-  pub upsLong : length st.ups ≡ 192
-  pub oneLong : length st.one ≡ 208
-  pub twoLong : length st.two ≡ 208
-  pub codeLong : length st.code ≡ 208
-  pub hydrogensLong : length st.hydrogens ≡ 192
-  pub degreesLong : length st.degrees ≡ 192
+  pub kinds_long : length st.kinds ≡ 192
+  pub ups_long : length st.ups ≡ 192
+  pub one_long : length st.one ≡ 208
+  pub two_long : length st.two ≡ 208
+  pub code_long : length st.code ≡ 208
+  pub hydrogens_long : length st.hydrogens ≡ 192
+  pub degrees_long : length st.degrees ≡ 192
   pub attached : (p : ℕ) → get_or st.ups p 0 ≤ p
   pub cursor : st.cursor.0 ≤ st.n
-  pub heavyAtoms : st.atoms ≡ heavyAtoms (view_of st)
-  pub hydrogenAtoms : st.total ≡ hydrogenAtoms (view_of st)
-  pub heavyBonds : st.bonds ≡ heavyBonds (view_of st)
-  pub hydrogensOn : (p : ℕ) → p < 192 → get_or st.hydrogens p 0 ≡ hydrogensOn (view_of st) p
-  pub bondsOn : (p : ℕ) → p < 192 → get_or st.degrees p 0 ≡ bondsOn (view_of st) p
+  pub heavy_atoms : st.atoms ≡ heavy_atoms (view_of st)
+  pub hydrogen_atoms : st.total ≡ hydrogen_atoms (view_of st)
+  pub heavy_bonds : st.bonds ≡ heavy_bonds (view_of st)
+  pub hydrogens_on : (p : ℕ) → p < 192 → get_or st.hydrogens p 0 ≡ hydrogens_on (view_of st) p
+  pub bonds_on : (p : ℕ) → p < 192 → get_or st.degrees p 0 ≡ bonds_on (view_of st) p
 
 -- each item has the code of a mark
 abbrev pub Marked : List rule.Item → Type 0
@@ -57,21 +57,21 @@ pub record Bit (b : Bool) (r : ℕ) : Type 0 where
   pub is : r ≡ bit b
   pub small : r ≤ 1
 
-abbrev pub hBit : ℕ → Bool
-hBit k = eqb k 0
+abbrev pub h_bit : ℕ → Bool
+h_bit k = eqb k 0
 
-abbrev pub hBond : ℕ → ℕ → Bool
-hBond k j = hBit k || hBit j
+abbrev pub h_bond : ℕ → ℕ → Bool
+h_bond k j = h_bit k || h_bit j
 
 -- the three changes of which an item's are made up
-abbrev pub grownBy : rules.State → ℕ → rules.State
-grownBy s k = record { kinds = s.kinds ++ (k ∷ []); ups = s.ups ++ (s.cursor ∷ []); bonds = s.bonds; cursor = s.cursor }
+abbrev pub grown_by : rules.State → ℕ → rules.State
+grown_by s k = record { kinds = s.kinds ++ (k ∷ []); ups = s.ups ++ (s.cursor ∷ []); bonds = s.bonds; cursor = s.cursor }
 
 abbrev pub moved_to : rules.State → ℕ → rules.State
 moved_to s p = record { kinds = s.kinds; ups = s.ups; bonds = s.bonds; cursor = p }
 
-abbrev pub bondedBy : rules.State → ℕ → ℕ → rules.State
-bondedBy s p m = record { kinds = s.kinds; ups = s.ups; bonds = drawn s p m; cursor = p }
+abbrev pub bonded_by : rules.State → ℕ → ℕ → rules.State
+bonded_by s p m = record { kinds = s.kinds; ups = s.ups; bonds = drawn s p m; cursor = p }
 
 -- there is room for a bond from the cursor to p
 pub record Drawable (st : State) (p : ℕ) : Type 0 where
@@ -80,12 +80,12 @@ pub record Drawable (st : State) (p : ℕ) : Type 0 where
   pub from : st.cursor.0 < st.n
   pub to : p < st.n
   pub apart : st.cursor.0 ≡ p → ⊥
-  pub fewH : get_or st.hydrogens st.cursor.0 0 ≤ 4
-  pub fewH' : get_or st.hydrogens p 0 ≤ 4
+  pub few_h : get_or st.hydrogens st.cursor.0 0 ≤ 4
+  pub few_h' : get_or st.hydrogens p 0 ≤ 4
   pub few : get_or st.degrees st.cursor.0 0 ≤ 6
   pub few' : get_or st.degrees p 0 ≤ 6
 
 -- an item with the code of a mark, and not refused
 pub record Judged (s : rules.State) (i : rule.Item) : Type 0 where
   pub marked : (0 < code_of i) × (code_of i ≤ 4)
-  pub clear : itemFault s i ≡ 0
+  pub clear : item_fault s i ≡ 0

@@ -6,9 +6,9 @@ use Rattle.sling.specs.Faults.{Outcome, finished, judged, run}
 use Rattle.text.specs.declared.read.Reading.{Reading}
 use Rattle.text.specs.Holding.{view_of, Held}
 
-abbrev pub outcomeOf : Reading → Outcome
-outcomeOf r = judged r.refusal r.place (view_of r.state) finished
+abbrev pub outcome_of : Reading → Outcome
+outcome_of r = judged r.refusal r.place (view_of r.state) finished
 
 pub record Reads (s : List ℕ) (r : Reading) : Type 0 where
-  pub is : outcomeOf r ≡ run (tokens s 0 0) start
+  pub is : outcome_of r ≡ run (tokens s 0 0) start
   pub held : Held r.state

@@ -2,7 +2,7 @@
 use Rattle.std.specs.Prelude.{ℕ, ◌+◌, ◌-◌, ◌≤◌, ◌<◌, ◌≡◌, List, Bool, cond, ◌&&◌, ◌||◌, length, get_or, drop, eqb, ltb}
 use Rattle.sling.specs.Items as rule
 use Rattle.sling.specs.Scanned as rules
-use Rattle.sling.specs.Scanned.{isDigit, mark_of, number_at, placed, stepped, target, bracketed, body, scan}
+use Rattle.sling.specs.Scanned.{is_digit, mark_of, number_at, placed, stepped, target, bracketed, body, scan}
 use Rattle.sling.specs.Faults.{code_of}
 use Rattle.text.specs.declared.item.Target.{Target}
 use Rattle.text.specs.declared.item.Target.TheVariants.{At, Up}
@@ -26,18 +26,18 @@ item_of (Reference t) = rule.reference (target_of t)
 item_of (Ring m t) = rule.ring m (target_of t)
 
 -- of what was scanned at an offset, the number of its bytes
-abbrev pub scannedOf : ℕ → Scanned → rules.Scanned
-scannedOf at (Got i next) = rules.got (item_of i) (next - at)
-scannedOf at Broken = rules.broken
+abbrev pub scanned_of : ℕ → Scanned → rules.Scanned
+scanned_of at (Got i next) = rules.got (item_of i) (next - at)
+scanned_of at Broken = rules.broken
 
 abbrev pub number_of : Number → rules.Number
 number_of (Value v n) = rules.number v n
 number_of Nothing = rules.none
 
 -- what stands at an offset, after k bytes of its item
-abbrev pub aimedOf : (at k : ℕ) → (rule.Target → rule.Item) → Aim → rules.Scanned
-aimedOf at k f (Found t next) = rules.got (f (target_of t)) (k + (next - at))
-aimedOf at k f Astray = rules.broken
+abbrev pub aimed_of : (at k : ℕ) → (rule.Target → rule.Item) → Aim → rules.Scanned
+aimed_of at k f (Found t next) = rules.got (f (target_of t)) (k + (next - at))
+aimed_of at k f Astray = rules.broken
 
 abbrev pub behind : (at k : ℕ) → Scanned → rules.Scanned
 behind at k (Got i next) = rules.got (item_of i) (k + (next - at))
@@ -57,11 +57,11 @@ Small (Value v n) = (0 < n) × (n ≤ 3)
 Small Nothing = Unit {0}
 
 -- the digit at an offset, or 10
-unfoldable pub digitAt : List ℕ → ℕ → ℕ
-digitAt s at = cond (ltb at (length s) && isDigit (get_or s at 0)) (get_or s at 0 - 48) 10
+unfoldable pub digit_at : List ℕ → ℕ → ℕ
+digit_at s at = cond (ltb at (length s) && is_digit (get_or s at 0)) (get_or s at 0 - 48) 10
 
 pub record Digit (s : List ℕ) (at r : ℕ) : Type 0 where
-  pub is : r ≡ digitAt s at
+  pub is : r ≡ digit_at s at
   pub small : r ≤ 10
 
 pub record NumberRead (s : List ℕ) (at : ℕ) (r : Number) : Type 0 where
@@ -69,15 +69,15 @@ pub record NumberRead (s : List ℕ) (at : ℕ) (r : Number) : Type 0 where
   pub small : Small r
 
 pub record Placed (s : List ℕ) (at : ℕ) (r : Aim) : Type 0 where
-  pub is : (k : ℕ) (f : rule.Target → rule.Item) → aimedOf at k f r ≡ placed (number_at (drop at s)) k f
+  pub is : (k : ℕ) (f : rule.Target → rule.Item) → aimed_of at k f r ≡ placed (number_at (drop at s)) k f
   pub ahead : Ahead at r
 
 pub record Stepped (s : List ℕ) (at : ℕ) (r : Aim) : Type 0 where
-  pub is : (k : ℕ) (f : rule.Target → rule.Item) → aimedOf at k f r ≡ stepped (number_at (drop at s)) k f
+  pub is : (k : ℕ) (f : rule.Target → rule.Item) → aimed_of at k f r ≡ stepped (number_at (drop at s)) k f
   pub ahead : Ahead at r
 
 pub record Aims (s : List ℕ) (at : ℕ) (r : Aim) : Type 0 where
-  pub is : (k : ℕ) (f : rule.Target → rule.Item) → aimedOf at k f r ≡ target (drop at s) k f
+  pub is : (k : ℕ) (f : rule.Target → rule.Item) → aimed_of at k f r ≡ target (drop at s) k f
   pub ahead : Ahead at r
 
 pub record Marks (b r : ℕ) : Type 0 where
@@ -85,16 +85,16 @@ pub record Marks (b r : ℕ) : Type 0 where
   pub some : 0 < r
   pub most : r ≤ 4
 
-abbrev pub startsTarget : ℕ → Bool
-startsTarget b = isDigit b || eqb b 45
+abbrev pub starts_target : ℕ → Bool
+starts_target b = is_digit b || eqb b 45
 
-abbrev pub referenceOf : Aim → Scanned
-referenceOf (Found t next) = Got (Reference t) next
-referenceOf Astray = Broken
+abbrev pub reference_of : Aim → Scanned
+reference_of (Found t next) = Got (Reference t) next
+reference_of Astray = Broken
 
-abbrev pub ringOf : ℕ → Aim → Scanned
-ringOf m (Found t next) = Got (Ring m t) next
-ringOf m Astray = Broken
+abbrev pub ring_of : ℕ → Aim → Scanned
+ring_of m (Found t next) = Got (Ring m t) next
+ring_of m Astray = Broken
 
 pub record Brackets (s : List ℕ) (at m : ℕ) (r : Scanned) : Type 0 where
   pub is : (k : ℕ) → behind at k r ≡ bracketed (drop (at + 1) s) k m
@@ -105,5 +105,5 @@ pub record Bodies (s : List ℕ) (at m : ℕ) (r : Scanned) : Type 0 where
   pub sane : Sane at r
 
 pub record Scans (s : List ℕ) (at : ℕ) (r : Scanned) : Type 0 where
-  pub is : scannedOf at r ≡ scan (drop at s)
+  pub is : scanned_of at r ≡ scan (drop at s)
   pub sane : Sane at r

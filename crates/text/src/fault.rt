@@ -1,11 +1,11 @@
 // Judging an item.
 ghost use Rattle.std.specs.Prelude.{◌≡◌, cond, ◌&&◌, ◌||◌, ℕ, ◌≤◌, ◌<◌, List, eqb};
 ghost use Rattle.molecule.specs.Bonds.{joins};
-ghost use Rattle.sling.specs.Faults.{itemFault};
+ghost use Rattle.sling.specs.Faults.{item_fault};
 ghost use Rattle.text.specs.Scanning.{item_of};
 ghost use Rattle.text.specs.Holding.{view_of, Held};
 ghost use Rattle.text.specs.Changing.{state_of};
-ghost use Rattle.text.specs.Judging.{Ready, hBroken, overIn, overOn, firstFault, openingFault, pairedIn, end_at, atomFault, ringFault, referenceFault};
+ghost use Rattle.text.specs.Judging.{Ready, h_broken, over_in, over_on, first_fault, opening_fault, paired_in, end_at, atom_fault, ring_fault, reference_fault};
 
 use crate::item::{Item, Place};
 use crate::state::{State, h_bit, h_bond, named, wide};
@@ -22,7 +22,7 @@ pub struct End {
 
 // Whether a new bond breaks the H rule at one of its ends, which has so many hydrogen bonds before.
 fn wrong_h(kind: u8, other: u8, code: u8, bonds: u8) -> bool
-    ensures { result ≡ hBroken kind other code bonds }
+    ensures { result ≡ h_broken kind other code bonds }
 {
     if kind != 0 {
         return false;
@@ -37,7 +37,7 @@ fn wrong_h(kind: u8, other: u8, code: u8, bonds: u8) -> bool
 }
 
 fn over(atoms: usize, hydrogens: usize, bonds: usize) -> bool
-    ensures { result ≡ overIn atoms hydrogens bonds }
+    ensures { result ≡ over_in atoms hydrogens bonds }
 {
     if Table::MAX_ATOMS < atoms {
         return true;
@@ -49,7 +49,7 @@ fn over(atoms: usize, hydrogens: usize, bonds: usize) -> bool
 }
 
 fn over_on(hydrogens: usize, bonds: usize) -> bool
-    ensures { result ≡ overOn hydrogens bonds }
+    ensures { result ≡ over_on hydrogens bonds }
 {
     if Table::MAX_HYDROGENS_ON < hydrogens {
         return true;
@@ -91,7 +91,7 @@ fn paired<'a>(
     q: Place,
 ) -> bool
     requires { drawn ≤ 208 }
-    ensures { result ≡ pairedIn one.now two.now drawn p.0 q.0 }
+    ensures { result ≡ paired_in one.now two.now drawn p.0 q.0 }
 {
     let mut i = 0;
     while i < drawn {
@@ -105,7 +105,7 @@ fn paired<'a>(
 
 // 7 where a new bond breaks the H rule at one of its ends, which have so many hydrogen bonds before.
 fn h_fault(kind: u8, other: u8, code: u8, bonds: u8, others: u8) -> u8
-    ensures { result ≡ cond (hBroken kind other code bonds || hBroken other kind code others) 7 0 }
+    ensures { result ≡ cond (h_broken kind other code bonds || h_broken other kind code others) 7 0 }
 {
     if wrong_h(kind, other, code, bonds) {
         return 7;
@@ -125,7 +125,7 @@ fn pair_fault<'a>(
     q: Place,
 ) -> u8
     requires { drawn ≤ 208 }
-    ensures { result ≡ cond (eqb p.0 q.0 || pairedIn one.now two.now drawn p.0 q.0) 6 0 }
+    ensures { result ≡ cond (eqb p.0 q.0 || paired_in one.now two.now drawn p.0 q.0) 6 0 }
 {
     if p.0 == q.0 {
         return 6;
@@ -147,7 +147,7 @@ fn first_of(one: u8, two: u8) -> u8
 }
 
 fn first_fault(code: u8, kind: u8) -> u8
-    ensures { result ≡ firstFault code kind }
+    ensures { result ≡ first_fault code kind }
 {
     if 1 < code {
         return 2;
@@ -160,7 +160,7 @@ fn first_fault(code: u8, kind: u8) -> u8
 
 // The first item is an atom without a mark.
 fn opening_fault(item: Item) -> u8
-    ensures { result ≡ openingFault (item_of item) }
+    ensures { result ≡ opening_fault (item_of item) }
 {
     match item {
         Item::Atom { code, kind } => first_fault(code, kind),
@@ -188,7 +188,7 @@ fn end_at<'a>(
 
 fn atom_fault(from: End, t: Tally, code: u8, kind: u8) -> u8
     requires { Ready t }
-    ensures { result ≡ atomFault code kind from t }
+    ensures { result ≡ atom_fault code kind from t }
 {
     if 24 < kind {
         return 3;
@@ -222,8 +222,8 @@ fn ring_fault<'a>(
     to: Place,
 ) -> u8
     requires { Ready t }
-    ensures { result ≡ ringFault code to.0 (end_at kinds.now hydrogens.now degrees.now t.cursor.0) (end_at kinds.now hydrogens.now degrees.now to.0) t
-        (pairedIn one.now two.now t.drawn t.cursor.0 to.0) }
+    ensures { result ≡ ring_fault code to.0 (end_at kinds.now hydrogens.now degrees.now t.cursor.0) (end_at kinds.now hydrogens.now degrees.now to.0) t
+        (paired_in one.now two.now t.drawn t.cursor.0 to.0) }
 {
     if t.n <= to.0 as usize {
         return 5;
@@ -250,7 +250,7 @@ fn ring_fault<'a>(
 }
 
 fn reference_fault(places: usize, to: Place) -> u8
-    ensures { result ≡ referenceFault places to.0 }
+    ensures { result ≡ reference_fault places to.0 }
 {
     if places <= to.0 as usize {
         return 5;
@@ -271,7 +271,7 @@ pub fn item_fault<'a>(
 ) -> u8
     requires { (codes : List ℕ) × Held (state_of kinds.now ups.now one.now two.now codes hydrogens.now degrees.now t) }
     ensures { (codes : List ℕ) → Held (state_of kinds.now ups.now one.now two.now codes hydrogens.now degrees.now t)
-        → result ≡ itemFault (view_of (state_of kinds.now ups.now one.now two.now codes hydrogens.now degrees.now t)) (item_of item) }
+        → result ≡ item_fault (view_of (state_of kinds.now ups.now one.now two.now codes hydrogens.now degrees.now t)) (item_of item) }
 {
     if t.n == 0 {
         return opening_fault(item);

@@ -4,7 +4,7 @@ ghost use Rattle.molecule.specs.Renumbering.{Renumbered};
 ghost use Rattle.sling.specs.Folded.{folded};
 ghost use Rattle.table.specs.View.{TidyTable};
 ghost use Rattle.text.specs.Holding.{view_of, Held};
-ghost use Rattle.text.specs.Folding.{moleculeOf, HeavyPut, Bares, Linkable, Links};
+ghost use Rattle.text.specs.Folding.{molecule_of, HeavyPut, Bares, Linkable, Links};
 
 use crate::state::{State, narrow, wide};
 use table::{AtomNo, Table, rows};
@@ -85,7 +85,7 @@ fn put_link(
 
 pub fn folded(st: State) -> Table
     requires { Held st }
-    ensures { TidyTable result × Renumbered (λ a. a) (folded (view_of st)) (moleculeOf result) }
+    ensures { TidyTable result × Renumbered (λ a. a) (folded (view_of st)) (molecule_of result) }
 {
     let atoms = bare_atoms(st);
     let numbers = atoms.numbers;

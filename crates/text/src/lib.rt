@@ -1,6 +1,8 @@
 // Reading a text: its items, one by one, into the card of the molecule that it writes.
+#![tactic(auto)]
+
 ghost use Rattle.std.specs.Prelude.{◌≡◌};
-ghost use Rattle.sling.specs.Folded.{loneH};
+ghost use Rattle.sling.specs.Folded.{lone_h};
 ghost use Rattle.text.specs.Holding.{view_of, Held};
 ghost use Rattle.text.specs.Answering.{Answered};
 
@@ -40,7 +42,7 @@ fn refused(refusal: u8, place: usize) -> Answer
 // Whether all that was read is an H, which has no bond then.
 fn lone_h(st: State) -> bool
     requires { Held st }
-    ensures { result ≡ loneH (view_of st) }
+    ensures { result ≡ lone_h (view_of st) }
 {
     if st.n == 0 {
         return st.drawn == 0;

@@ -1,14 +1,14 @@
 // Scanning the item at an offset of a text.
 ghost use Rattle.std.specs.Prelude.{◌≡◌, ◌≤◌, ◌<◌, length, drop};
-ghost use Rattle.sling.specs.Scanned.{isCapital, isSmall, smallFirst};
-ghost use Rattle.text.specs.Scanning.{Marks, startsTarget, referenceOf, ringOf, Brackets, Bodies, Scans};
+ghost use Rattle.sling.specs.Scanned.{is_capital, is_small, small_first};
+ghost use Rattle.text.specs.Scanning.{Marks, starts_target, reference_of, ring_of, Brackets, Bodies, Scans};
 
 use crate::item::{Item, Scanned};
 use crate::target::{Aim, place_at, target_at};
 use kinds::{kind_of_capital, kind_of_letters};
 
 fn is_capital(b: u8) -> bool
-    ensures { result ≡ isCapital b }
+    ensures { result ≡ is_capital b }
 {
     if b < 65 {
         return false;
@@ -17,7 +17,7 @@ fn is_capital(b: u8) -> bool
 }
 
 fn is_small(b: u8) -> bool
-    ensures { result ≡ isSmall b }
+    ensures { result ≡ is_small b }
 {
     if b < 97 {
         return false;
@@ -27,7 +27,7 @@ fn is_small(b: u8) -> bool
 
 // Whether a small letter stands at an offset.
 fn small_at(text: &[u8], at: usize) -> bool
-    ensures { result ≡ smallFirst (drop at text.now) }
+    ensures { result ≡ small_first (drop at text.now) }
 {
     if text.len() <= at {
         return false;
@@ -53,7 +53,7 @@ fn mark_of(b: u8) -> u8
 
 // Whether a byte that is no `+` begins a reference.
 fn starts_target(b: u8) -> bool
-    ensures { result ≡ startsTarget b }
+    ensures { result ≡ starts_target b }
 {
     if b == 45 {
         return true;
@@ -65,7 +65,7 @@ fn starts_target(b: u8) -> bool
 }
 
 fn as_reference(a: Aim) -> Scanned
-    ensures { result ≡ referenceOf a }
+    ensures { result ≡ reference_of a }
 {
     match a {
         Aim::Astray => Scanned::Broken,
@@ -74,7 +74,7 @@ fn as_reference(a: Aim) -> Scanned
 }
 
 fn as_ring(a: Aim, code: u8) -> Scanned
-    ensures { result ≡ ringOf code a }
+    ensures { result ≡ ring_of code a }
 {
     match a {
         Aim::Astray => Scanned::Broken,

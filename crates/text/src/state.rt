@@ -3,8 +3,8 @@ ghost use Rattle.std.specs.Prelude.{◌≡◌, ◌-◌, ◌≤◌, ◌<◌, set}
 ghost use Rattle.sling.specs.Reading as rules;
 ghost use Rattle.sling.specs.Reading.{start, climb, place_of};
 ghost use Rattle.text.specs.Scanning.{target_of, item_of};
-ghost use Rattle.text.specs.Holding.{view_of, Held, Bit, hBit, hBond};
-ghost use Rattle.text.specs.Changing.{state_of, grownTally, bondedTally, hBetween, raisedAt, Raisable, Growable, Bondable, Climbable, Attached, resolved};
+ghost use Rattle.text.specs.Holding.{view_of, Held, Bit, h_bit, h_bond};
+ghost use Rattle.text.specs.Changing.{state_of, grown_tally, bonded_tally, h_between, raised_at, Raisable, Growable, Bondable, Climbable, Attached, resolved};
 
 use crate::item::{Item, Place, Target};
 use crate::tally::Tally;
@@ -77,7 +77,7 @@ pub fn place_of_number(x: usize) -> Place
 
 // 1 for H.
 pub fn h_bit(kind: u8) -> u8
-    ensures { Bit (hBit kind) result }
+    ensures { Bit (h_bit kind) result }
 {
     if kind == 0 {
         return 1;
@@ -87,7 +87,7 @@ pub fn h_bit(kind: u8) -> u8
 
 // 1 for a bond to an H.
 pub fn h_bond(one: u8, other: u8) -> u8
-    ensures { Bit (hBond one other) result }
+    ensures { Bit (h_bond one other) result }
 {
     if one == 0 {
         return 1;
@@ -186,7 +186,7 @@ pub fn grown(
     kind: u8,
 ) -> Tally
     requires { Growable t }
-    ensures { (kinds.new ≡ set kinds.old t.n kind) × (ups.new ≡ set ups.old t.n t.cursor.0) × (result ≡ grownTally t kind) }
+    ensures { (kinds.new ≡ set kinds.old t.n kind) × (ups.new ≡ set ups.old t.n t.cursor.0) × (result ≡ grown_tally t kind) }
 {
     let mut next = t;
     let n = next.n;
@@ -202,7 +202,7 @@ pub fn grown(
 // The counts at both ends of a new bond raised.
 fn raise(counts: &mut [u8; State::PLACES], from: Place, to: Place, by: u8)
     requires { Raisable counts.old from.0 to.0 × (by ≤ 1) }
-    ensures { counts.new ≡ raisedAt counts.old from.0 to.0 by }
+    ensures { counts.new ≡ raised_at counts.old from.0 to.0 by }
 {
     let c = from.0 as usize;
     let p = to.0 as usize;
@@ -224,9 +224,9 @@ pub fn bonded<'a>(
 ) -> Tally
     requires { Bondable hydrogens.old degrees.old t to.0 }
     ensures { (one.new ≡ set one.old t.drawn t.cursor.0) × (two.new ≡ set two.old t.drawn to.0) × (codes.new ≡ set codes.old t.drawn code)
-        × (hydrogens.new ≡ raisedAt hydrogens.old t.cursor.0 to.0 (hBetween kinds.now t.cursor.0 to.0))
-        × (degrees.new ≡ raisedAt degrees.old t.cursor.0 to.0 (1 - hBetween kinds.now t.cursor.0 to.0))
-        × (result ≡ bondedTally t to (hBetween kinds.now t.cursor.0 to.0)) }
+        × (hydrogens.new ≡ raised_at hydrogens.old t.cursor.0 to.0 (h_between kinds.now t.cursor.0 to.0))
+        × (degrees.new ≡ raised_at degrees.old t.cursor.0 to.0 (1 - h_between kinds.now t.cursor.0 to.0))
+        × (result ≡ bonded_tally t to (h_between kinds.now t.cursor.0 to.0)) }
 {
     let from = t.cursor;
     let c = from.0 as usize;

@@ -1,6 +1,6 @@
 // The counts of a state and its cursor: what is passed by value while its arrays are lent.
 ghost use Rattle.std.specs.Prelude.{◌≡◌};
-ghost use Rattle.text.specs.Changing.{noTally, movedTally};
+ghost use Rattle.text.specs.Changing.{no_tally, moved_tally};
 
 use crate::item::Place;
 
@@ -17,7 +17,7 @@ pub struct Tally {
 
 impl Tally {
     pub fn empty() -> Tally
-        ensures { result ≡ noTally }
+        ensures { result ≡ no_tally }
     {
         Tally {
             n: 0,
@@ -31,7 +31,7 @@ impl Tally {
 
     // The cursor moves, with no bond.
     pub fn moved(self, place: Place) -> Tally
-        ensures { result ≡ movedTally self place }
+        ensures { result ≡ moved_tally self place }
     {
         let mut next = self;
         next.cursor = place;

@@ -11,9 +11,9 @@ use lib.Dec.{eqb}
 use borrow.Author.Tests.{lt-ltb, le-ltb, ne_eqb, eqb-true}
 use Rattle.molecule.specs.Kinds.{symbol_of}
 use Rattle.sling.specs.Items.{Item}
-use Rattle.sling.specs.Printed.{decimal, symbolBytes, markBytes, itemBytes, endsInDigit, bytes}
+use Rattle.sling.specs.Printed.{decimal, symbol_bytes, mark_bytes, item_bytes, ends_in_digit, bytes}
 use Rattle.writing.specs.Added.{Room, Added}
-use Rattle.writing.specs.Shown.{digitAfter}
+use Rattle.writing.specs.Shown.{digit_after}
 
 pub added_none : (b : List ℕ) (i : ℕ) → length b ≡ 2048 → Added b b i i []
 added_none b i e = record { end = omega arith; is = sym (append-nil (take i b)); long = e }
@@ -41,17 +41,17 @@ module _ (b : List ℕ) (i : ℕ) (long : length b ≡ 2048) where
       let p = added-one b i x long (omega arith) in
       subst (λ (j : ℕ). Added b (set (set b i x) (i + 1) y) i j (x ∷ y ∷ [])) e (added_more p (added-one (set b i x) (i + 1) y p.long (omega arith)))
 
-  three-stored : (x y z : ℕ) → i + 3 ≤ 2048 → Added b (set (set (set b i x) (i + 1) y) (i + 2) z) i (i + 3) (x ∷ y ∷ z ∷ [])
-  three-stored x y z h =
+  three_stored : (x y z : ℕ) → i + 3 ≤ 2048 → Added b (set (set (set b i x) (i + 1) y) (i + 2) z) i (i + 3) (x ∷ y ∷ z ∷ [])
+  three_stored x y z h =
       let e : i + 2 + 1 ≡ i + 3 = omega arith in
       let p = two-stored x y (omega arith) in
       subst (λ (j : ℕ). Added b (set (set (set b i x) (i + 1) y) (i + 2) z) i j (x ∷ y ∷ z ∷ [])) e
       (added_more p (added-one (set (set b i x) (i + 1) y) (i + 2) z p.long (omega arith)))
 
-  four-stored : (x y z u : ℕ) → i + 4 ≤ 2048 → Added b (set (set (set (set b i x) (i + 1) y) (i + 2) z) (i + 3) u) i (i + 4) (x ∷ y ∷ z ∷ u ∷ [])
-  four-stored x y z u h =
+  four_stored : (x y z u : ℕ) → i + 4 ≤ 2048 → Added b (set (set (set (set b i x) (i + 1) y) (i + 2) z) (i + 3) u) i (i + 4) (x ∷ y ∷ z ∷ u ∷ [])
+  four_stored x y z u h =
       let e : i + 3 + 1 ≡ i + 4 = omega arith in
-      let p = three-stored x y z (omega arith) in
+      let p = three_stored x y z (omega arith) in
       subst (λ (j : ℕ). Added b (set (set (set (set b i x) (i + 1) y) (i + 2) z) (i + 3) u) i j (x ∷ y ∷ z ∷ u ∷ [])) e
       (added_more p (added-one (set (set (set b i x) (i + 1) y) (i + 2) z) (i + 3) u p.long (omega arith)))
 
@@ -69,12 +69,12 @@ module _ (b : List ℕ) (i : ℕ) (xs : List ℕ) (h : Room b i xs) where
   pub put_three : (x y z : ℕ) → xs ≡ x ∷ y ∷ z ∷ [] → Added b (set (set (set b i x) (i + 1) y) (i + 2) z) i (i + 3) xs
   put_three x y z e =
       subst (Added b (set (set (set b i x) (i + 1) y) (i + 2) z) i (i + 3)) (sym e)
-      (three-stored b i h.long x y z (let q = ap length e in omega arith))
+      (three_stored b i h.long x y z (let q = ap length e in omega arith))
 
   pub put_four : (x y z u : ℕ) → xs ≡ x ∷ y ∷ z ∷ u ∷ [] → Added b (set (set (set (set b i x) (i + 1) y) (i + 2) z) (i + 3) u) i (i + 4) xs
   put_four x y z u e =
       subst (Added b (set (set (set (set b i x) (i + 1) y) (i + 2) z) (i + 3) u) i (i + 4)) (sym e)
-      (four-stored b i h.long x y z u (let q = ap length e in omega arith))
+      (four_stored b i h.long x y z u (let q = ap length e in omega arith))
 
   -- xs in two parts
   pub room-left : (ys zs : List ℕ) → xs ≡ ys ++ zs → Room b i ys
@@ -84,8 +84,8 @@ module _ (b : List ℕ) (i : ℕ) (xs : List ℕ) (h : Room b i xs) where
   room-right ys zs e {b'} {j} p = record { long = p.long; fits = omega (arith, h.fits, p.end, ap length e, length-append ys zs) }
 
 -- a mark that is not there
-pub mark-none : (m : ℕ) → (m ≡ 2 → ⊥) → (m ≡ 3 → ⊥) → (m ≡ 4 → ⊥) → markBytes m ≡ []
-mark-none m p q r = simp (ne_eqb m 2 p, ne_eqb m 3 q, ne_eqb m 4 r)
+pub mark_none : (m : ℕ) → (m ≡ 2 → ⊥) → (m ≡ 3 → ⊥) → (m ≡ 4 → ⊥) → mark_bytes m ≡ []
+mark_none m p q r = simp (ne_eqb m 2 p, ne_eqb m 3 q, ne_eqb m 4 r)
 
 -- a number by its digits
 pub decimal-one : (n : ℕ) → n < 10 → decimal n ≡ (48 + n) ∷ []
@@ -101,20 +101,20 @@ unfolding decimal
 decimal-three n k = let l : 10 ≤ n = omega arith in simp (le-ltb n 10 l, le-ltb n 100 k)
 
 -- a symbol takes a byte at least
-pub symbol-some : (k : ℕ) → 0 < length (symbolBytes k)
+pub symbol-some : (k : ℕ) → 0 < length (symbol_bytes k)
 symbol-some k = pick (eqb (length (symbol_of k)) 1) refl
   where
-    pick : (b : Bool) → eqb (length (symbol_of k)) 1 ≡ b → 0 < length (symbolBytes k)
+    pick : (b : Bool) → eqb (length (symbol_of k)) 1 ≡ b → 0 < length (symbol_bytes k)
     pick true e = rw e (let z : length (symbol_of k) ≡ 1 = eqb-true _ _ e in omega arith)
     pick false e = rw e (omega arith)
 
 -- the bytes of one item more, and whether a digit ends it
-pub bytes-last : (d : Bool) (l : List Item) (i : Item) → bytes d (l ++ (i ∷ [])) ≡ bytes d l ++ itemBytes (digitAfter d l) i
+pub bytes-last : (d : Bool) (l : List Item) (i : Item) → bytes d (l ++ (i ∷ [])) ≡ bytes d l ++ item_bytes (digit_after d l) i
 unfolding bytes
-bytes-last d [] i = append-nil (itemBytes d i)
+bytes-last d [] i = append-nil (item_bytes d i)
 bytes-last d (x ∷ l) i =
-    ap (λ (b : List ℕ). itemBytes d x ++ b) (bytes-last (endsInDigit x) l i) ∙ sym (append_assoc (itemBytes d x) (bytes (endsInDigit x) l) (itemBytes (digitAfter (endsInDigit x) l) i))
+    ap (λ (b : List ℕ). item_bytes d x ++ b) (bytes-last (ends_in_digit x) l i) ∙ sym (append_assoc (item_bytes d x) (bytes (ends_in_digit x) l) (item_bytes (digit_after (ends_in_digit x) l) i))
 
-pub digit-last : (d : Bool) (l : List Item) (i : Item) → digitAfter d (l ++ (i ∷ [])) ≡ endsInDigit i
+pub digit-last : (d : Bool) (l : List Item) (i : Item) → digit_after d (l ++ (i ∷ [])) ≡ ends_in_digit i
 digit-last d [] i = refl
-digit-last d (x ∷ l) i = digit-last (endsInDigit x) l i
+digit-last d (x ∷ l) i = digit-last (ends_in_digit x) l i

@@ -9,17 +9,17 @@ use lib.ListN.{length, length-append}
 use lib.Seq.{length-take-le}
 use borrow.Author.Tests.{eq-eqb, ne_eqb, ltb-true}
 use Rattle.sling.specs.Items.{Item, at, atom, reference, ring}
-use Rattle.sling.specs.Walk.{Written, place_in, serve, put, close, putHs}
-use Rattle.sling.specs.Printed.{bytes, itemBytes, endsInDigit, markBytes, symbolBytes, decimal}
+use Rattle.sling.specs.Walk.{Written, place_in, serve, put, close, put_hs}
+use Rattle.sling.specs.Printed.{bytes, item_bytes, ends_in_digit, mark_bytes, symbol_bytes, decimal}
 use Rattle.writing.specs.declared.Pen.{Pen}
 use Rattle.writing.specs.Added.{Room, Added}
-use Rattle.writing.specs.Shown.{digitAfter, size, At, Lettered}
+use Rattle.writing.specs.Shown.{digit_after, size, At, Lettered}
 use Rattle.writing.proofs.Bytes.{added-as, bytes-last, digit-last, symbol-some}
-use Rattle.writing.proofs.Served.{putHs-last}
+use Rattle.writing.proofs.Served.{put_hs-last}
 use Rattle.writing.proofs.Further.{size-last}
 
-pub letters-size : (b : List ℕ) (p : Pen) (w : Written) → Lettered b p w → p.length ≡ size w
-letters-size b p w l = sym (length-take-le p.length b (omega (arith, l.long, l.room))) ∙ ap length l.text
+pub letters_size : (b : List ℕ) (p : Pen) (w : Written) → Lettered b p w → p.length ≡ size w
+letters_size b p w l = sym (length-take-le p.length b (omega (arith, l.long, l.room))) ∙ ap length l.text
 
 -- a place that is written has a byte, so that it is below 2,048
 pub place-small : (b : List ℕ) (p : Pen) (w : Written) (r q : ℕ) → Lettered b p w → At w r q → q < 2048
@@ -28,23 +28,23 @@ place-small b p w r q l a = let h : place_in w.ranks r < length w.ranks = ltb-tr
 -- what is left to show of one item more
 pub record Next (p q : Pen) (w v : Written) (i : Item) : Type 0 where
   pub items : v.items ≡ w.items ++ (i ∷ [])
-  pub digit : q.digit ≡ endsInDigit i
+  pub digit : q.digit ≡ ends_in_digit i
   pub next : q.next.0 ≡ length v.ranks
   pub cursor : q.cursor.0 ≡ v.cursor
   pub few : length v.ranks ≤ q.length
 
-pub letters-more : (b b' : List ℕ) (p q : Pen) (w v : Written) (i : Item) → Lettered b p w → Added b b' p.length q.length (itemBytes p.digit i)
+pub letters_more : (b b' : List ℕ) (p q : Pen) (w v : Written) (i : Item) → Lettered b p w → Added b b' p.length q.length (item_bytes p.digit i)
     → Next p q w v i → size v ≤ 2048 → Lettered b' q v
-letters-more b b' p q w v i l a n h =
-    let e : size v ≡ size w + length (itemBytes (digitAfter false w.items) i) = ap (λ (x : List Item). length (bytes false x)) n.items ∙ size-last w.items i in
-    let s : length (itemBytes p.digit i) ≡ length (itemBytes (digitAfter false w.items) i) = ap (λ (d : Bool). length (itemBytes d i)) l.digit in
+letters_more b b' p q w v i l a n h =
+    let e : size v ≡ size w + length (item_bytes (digit_after false w.items) i) = ap (λ (x : List Item). length (bytes false x)) n.items ∙ size-last w.items i in
+    let s : length (item_bytes p.digit i) ≡ length (item_bytes (digit_after false w.items) i) = ap (λ (d : Bool). length (item_bytes d i)) l.digit in
     record {
       long = a.long;
-      room = omega (arith, a.end, letters-size b p w l);
+      room = omega (arith, a.end, letters_size b p w l);
       text =
-          a.is ∙ ap (λ (x : List ℕ). x ++ itemBytes p.digit i) l.text ∙ ap (λ (d : Bool). bytes false w.items ++ itemBytes d i) l.digit
+          a.is ∙ ap (λ (x : List ℕ). x ++ item_bytes p.digit i) l.text ∙ ap (λ (d : Bool). bytes false w.items ++ item_bytes d i) l.digit
           ∙ sym (bytes-last false w.items i) ∙ ap (bytes false) (sym n.items);
-      digit = n.digit ∙ sym (digit-last false w.items i) ∙ ap (digitAfter false) (sym n.items);
+      digit = n.digit ∙ sym (digit-last false w.items i) ∙ ap (digit_after false) (sym n.items);
       next = n.next;
       cursor = n.cursor;
       few = n.few;
@@ -62,39 +62,39 @@ module _ (r : ℕ) (w : Written) where
   serve-goes n = simp (ne_eqb _ _ n)
 
 -- a reference with and without its sign
-pub plus-bytes : (d : Bool) (p : ℕ) → d ≡ true → itemBytes d (reference (at p)) ≡ 43 ∷ decimal p
-unfolding itemBytes
+pub plus-bytes : (d : Bool) (p : ℕ) → d ≡ true → item_bytes d (reference (at p)) ≡ 43 ∷ decimal p
+unfolding item_bytes
 plus-bytes true p e = refl
 plus-bytes false p e = absurd (true≢false (sym e))
 
-pub plain-bytes : (d : Bool) (p : ℕ) → d ≡ false → itemBytes d (reference (at p)) ≡ decimal p
-unfolding itemBytes
-plain-bytes true p e = absurd (true≢false e)
-plain-bytes false p e = refl
+pub plain_bytes : (d : Bool) (p : ℕ) → d ≡ false → item_bytes d (reference (at p)) ≡ decimal p
+unfolding item_bytes
+plain_bytes true p e = absurd (true≢false e)
+plain_bytes false p e = refl
 
-pub atom-bytes : (d : Bool) (m k : ℕ) → itemBytes d (atom m k) ≡ markBytes m ++ symbolBytes k
-unfolding itemBytes
+pub atom-bytes : (d : Bool) (m k : ℕ) → item_bytes d (atom m k) ≡ mark_bytes m ++ symbol_bytes k
+unfolding item_bytes
 atom-bytes d m k = refl
 
-pub ring-bytes : (d : Bool) (m p : ℕ) → itemBytes d (ring m (at p)) ≡ markBytes m ++ (47 ∷ decimal p)
-unfolding itemBytes
+pub ring-bytes : (d : Bool) (m p : ℕ) → item_bytes d (ring m (at p)) ≡ mark_bytes m ++ (47 ∷ decimal p)
+unfolding item_bytes
 ring-bytes d m p = refl
 
-pub atom-some : (m k : ℕ) → 0 < length (markBytes m ++ symbolBytes k)
-atom-some m k = rw (length-append (markBytes m) (symbolBytes k)) (omega (arith, symbol-some k))
+pub atom-some : (m k : ℕ) → 0 < length (mark_bytes m ++ symbol_bytes k)
+atom-some m k = rw (length-append (mark_bytes m) (symbol_bytes k)) (omega (arith, symbol-some k))
 
 module _ (b : List ℕ) (p : Pen) (w : Written) (l : Lettered b p w) where
   -- the bytes of one item more fit
-  room-item : (i : Item) (v : Written) → v.items ≡ w.items ++ (i ∷ []) → size v ≤ 2048 → Room b p.length (itemBytes p.digit i)
+  room-item : (i : Item) (v : Written) → v.items ≡ w.items ++ (i ∷ []) → size v ≤ 2048 → Room b p.length (item_bytes p.digit i)
   room-item i v e h =
-      let s : size v ≡ size w + length (itemBytes (digitAfter false w.items) i) = ap (λ (x : List Item). length (bytes false x)) e ∙ size-last w.items i in
-      let d : length (itemBytes p.digit i) ≡ length (itemBytes (digitAfter false w.items) i) = ap (λ (z : Bool). length (itemBytes z i)) l.digit in
-      record { long = l.long; fits = omega (arith, letters-size b p w l) }
+      let s : size v ≡ size w + length (item_bytes (digit_after false w.items) i) = ap (λ (x : List Item). length (bytes false x)) e ∙ size-last w.items i in
+      let d : length (item_bytes p.digit i) ≡ length (item_bytes (digit_after false w.items) i) = ap (λ (z : Bool). length (item_bytes z i)) l.digit in
+      record { long = l.long; fits = omega (arith, letters_size b p w l) }
 
   -- to serve the atom of rank r, at place q
   module _ (r q : ℕ) (a : At w r q) where
-    pub letters-stays : p.cursor.0 ≡ q → Lettered b p (serve r w)
-    letters-stays e = subst (Lettered b p) (sym (serve-stays r w (sym l.cursor ∙ e ∙ a.1))) l
+    pub letters_stays : p.cursor.0 ≡ q → Lettered b p (serve r w)
+    letters_stays e = subst (Lettered b p) (sym (serve-stays r w (sym l.cursor ∙ e ∙ a.1))) l
 
     module _ (n : p.cursor.0 ≡ q → ⊥) (h : size (serve r w) ≤ 2048) where
       moved : w.cursor ≡ place_in w.ranks r → ⊥
@@ -103,14 +103,14 @@ module _ (b : List ℕ) (p : Pen) (w : Written) (l : Lettered b p w) where
       items-moved : (serve r w).items ≡ w.items ++ (reference (at q) ∷ [])
       items-moved = ap (λ (v : Written). v.items) (serve-goes r w moved) ∙ ap (λ (x : ℕ). w.items ++ (reference (at x) ∷ [])) (sym a.1)
 
-      pub serve-room : Room b p.length (itemBytes p.digit (reference (at q)))
+      pub serve-room : Room b p.length (item_bytes p.digit (reference (at q)))
       serve-room = room-item (reference (at q)) (serve r w) items-moved h
 
-      pub letters-goes : (b' : List ℕ) (p' : Pen) → Added b b' p.length p'.length (itemBytes p.digit (reference (at q)))
+      pub letters_goes : (b' : List ℕ) (p' : Pen) → Added b b' p.length p'.length (item_bytes p.digit (reference (at q)))
           → p'.next.0 ≡ p.next.0 → p'.cursor.0 ≡ q → p'.digit ≡ true → Lettered b' p' (serve r w)
-      letters-goes b' p' x e f g =
+      letters_goes b' p' x e f g =
           let same : (serve r w).ranks ≡ w.ranks = ap (λ (v : Written). v.ranks) (serve-goes r w moved) in
-          letters-more b b' p p' w (serve r w) (reference (at q)) l x
+          letters_more b b' p p' w (serve r w) (reference (at q)) l x
           (record {
             items = items-moved;
             digit = g;
@@ -121,16 +121,16 @@ module _ (b : List ℕ) (p : Pen) (w : Written) (l : Lettered b p w) where
 
   -- to put an atom of rank s and kind k behind a bond of code m
   module _ (s k m : ℕ) (h : size (put s k m w) ≤ 2048) where
-    pub put-room : Room b p.length (markBytes m ++ symbolBytes k)
+    pub put-room : Room b p.length (mark_bytes m ++ symbol_bytes k)
     unfolding put
     put-room = subst (Room b p.length) (atom-bytes p.digit m k) (room-item (atom m k) (put s k m w) refl h)
 
-    pub letters-put : (b' : List ℕ) (p' : Pen) → Added b b' p.length p'.length (markBytes m ++ symbolBytes k)
+    pub letters_put : (b' : List ℕ) (p' : Pen) → Added b b' p.length p'.length (mark_bytes m ++ symbol_bytes k)
         → p'.next.0 ≡ p.next.0 + 1 → p'.cursor.0 ≡ p.next.0 → p'.digit ≡ false → Lettered b' p' (put s k m w)
     unfolding put
-    letters-put b' p' x e f g =
+    letters_put b' p' x e f g =
         let n = length-append w.ranks (s ∷ []) in
-        letters-more b b' p p' w (put s k m w) (atom m k) l (added-as (atom-bytes p.digit m k) x)
+        letters_more b b' p p' w (put s k m w) (atom m k) l (added-as (atom-bytes p.digit m k) x)
         (record {
           items = refl;
           digit = g;
@@ -145,16 +145,16 @@ module _ (b : List ℕ) (p : Pen) (w : Written) (l : Lettered b p w) where
     unfolding close
     items-closed = ap (λ (x : ℕ). w.items ++ (ring m (at x) ∷ [])) (sym a.1)
 
-    pub close-room : Room b p.length (markBytes m ++ (47 ∷ decimal q))
+    pub close-room : Room b p.length (mark_bytes m ++ (47 ∷ decimal q))
     close-room = subst (Room b p.length) (ring-bytes p.digit m q) (room-item (ring m (at q)) (close s m w) items-closed h)
 
-    pub letters-close : (b' : List ℕ) (p' : Pen) → Added b b' p.length p'.length (markBytes m ++ (47 ∷ decimal q))
+    pub letters_close : (b' : List ℕ) (p' : Pen) → Added b b' p.length p'.length (mark_bytes m ++ (47 ∷ decimal q))
         → p'.next.0 ≡ p.next.0 → p'.cursor.0 ≡ q → p'.digit ≡ true → Lettered b' p' (close s m w)
     unfolding close
-    letters-close b' p' x e f g =
-        letters-more b b' p p' w (close s m w) (ring m (at q)) l (added-as (ring-bytes p.digit m q) x)
+    letters_close b' p' x e f g =
+        letters_more b b' p p' w (close s m w) (ring m (at q)) l (added-as (ring-bytes p.digit m q) x)
         (record { items = items-closed; digit = g; next = e ∙ l.next; cursor = f ∙ a.1; few = omega (arith, l.few, x.end) }) h
 
 -- a hydrogen more
-pub letters-hydrogen : {b : List ℕ} {p : Pen} (h r : ℕ) (w : Written) → Lettered b p (put 0 0 1 (serve r (putHs h r w))) → Lettered b p (putHs (h + 1) r w)
-letters-hydrogen {b} {p} h r w l = subst (Lettered b p) (sym (putHs-last h r w) ∙ ap (λ (k : ℕ). putHs k r w) (sym (add-one h))) l
+pub letters_hydrogen : {b : List ℕ} {p : Pen} (h r : ℕ) (w : Written) → Lettered b p (put 0 0 1 (serve r (put_hs h r w))) → Lettered b p (put_hs (h + 1) r w)
+letters_hydrogen {b} {p} h r w l = subst (Lettered b p) (sym (put_hs-last h r w) ∙ ap (λ (k : ℕ). put_hs k r w) (sym (add-one h))) l

@@ -13,19 +13,19 @@ use borrow.Author.Tests.{lt-ltb, le-ltb, eq-eqb, ne_eqb, ltb-true, ltb-false, eq
 use Rattle.lists.specs.Tests.{some}
 use Rattle.lists.proofs.Members.{map-eq}
 use Rattle.molecule.specs.Bonds.{Bond, joins}
-use Rattle.sling.specs.Walk.{Written, place_in, isTraced, putHs}
+use Rattle.sling.specs.Walk.{Written, place_in, is_traced, put_hs}
 use Rattle.lists.proofs.Tested.{some-snoc}
 use Rattle.sling.proofs.Places.{On, place-more, on-more, place-new, on-new, on-cases, places-differ}
 use Rattle.writing.specs.Shown.{Noted, marked}
-use Rattle.writing.proofs.Served.{put_at, closeAt, put-served}
+use Rattle.writing.proofs.Served.{put_at, close_at, put-served}
 
 -- where a rank is not written, its place is past all that are
 far : (l : List ℕ) (x : ℕ) → (On l x → ⊥) → length l ≤ place_in l x
 far l x n = let k : On l x → ⊥ = n in omega arith
 
-far-more : (l xs : List ℕ) (x : ℕ) → length l ≤ place_in l x → length l ≤ place_in (l ++ xs) x
-far-more [] xs x h = omega arith
-far-more (y ∷ l) xs x h = pick (eqb y x) refl (far-more l xs x)
+far_more : (l xs : List ℕ) (x : ℕ) → length l ≤ place_in l x → length l ≤ place_in (l ++ xs) x
+far_more [] xs x h = omega arith
+far_more (y ∷ l) xs x h = pick (eqb y x) refl (far_more l xs x)
   where
     pick : (b : Bool) → eqb y x ≡ b → (length l ≤ place_in l x → length l ≤ place_in (l ++ xs) x) → length (y ∷ l) ≤ place_in ((y ∷ l) ++ xs) x
     pick true e f = absurd (let z = simp e at h in omega arith)
@@ -55,26 +55,26 @@ place-eq l r x o = pick (eqb r x) refl
     pick false e = apart (eqb-false r x e) (either l x)
 
 -- an end of an old bond is the place of a rank now if it was before
-old-end : (l xs : List ℕ) (q x : ℕ) → q < length l → eqb q (place_in (l ++ xs) x) ≡ eqb q (place_in l x)
-old-end l xs q x h = pick (either l x)
+old_end : (l xs : List ℕ) (q x : ℕ) → q < length l → eqb q (place_in (l ++ xs) x) ≡ eqb q (place_in l x)
+old_end l xs q x h = pick (either l x)
   where
     pick : Either l x → eqb q (place_in (l ++ xs) x) ≡ eqb q (place_in l x)
     pick (yes o) = ap (eqb q) (place-more l xs x o)
     pick (no n k) =
-        let m = far-more l xs x k in
+        let m = far_more l xs x k in
         ne_eqb q (place_in (l ++ xs) x) (λ e. omega arith) ∙ sym (ne_eqb q (place_in l x) (λ e. omega arith))
 
-old-bond : (l xs : List ℕ) (x y : ℕ) (b : Bond) → (b.one < length l) × (b.two < length l)
+old_bond : (l xs : List ℕ) (x y : ℕ) (b : Bond) → (b.one < length l) × (b.two < length l)
     → joins (place_in (l ++ xs) x) (place_in (l ++ xs) y) b ≡ joins (place_in l x) (place_in l y) b
-old-bond l xs x y b h =
-    rw (old-end l xs b.one x h.0, old-end l xs b.two y h.1, old-end l xs b.one y h.0, old-end l xs b.two x h.1)
+old_bond l xs x y b h =
+    rw (old_end l xs b.one x h.0, old_end l xs b.two y h.1, old_end l xs b.one y h.0, old_end l xs b.two x h.1)
 
 abbrev Inside : List ℕ → List Bond → Type 0
 Inside l bs = (b : Bond) → Memᴰ b bs → (b.one < length l) × (b.two < length l)
 
-old-bonds : (l xs : List ℕ) (bs : List Bond) (x y : ℕ) → Inside l bs
+old_bonds : (l xs : List ℕ) (bs : List Bond) (x y : ℕ) → Inside l bs
     → some (map (joins (place_in (l ++ xs) x) (place_in (l ++ xs) y)) bs) ≡ some (map (joins (place_in l x) (place_in l y)) bs)
-old-bonds l xs bs x y i = ap some (map-eq bs _ _ (λ b m. old-bond l xs x y b (i b m)))
+old_bonds l xs bs x y i = ap some (map-eq bs _ _ (λ b m. old_bond l xs x y b (i b m)))
 
 inside-more : (l xs : List ℕ) (bs : List Bond) (b : Bond) → Inside l bs → (b.one < length (l ++ xs)) × (b.two < length (l ++ xs)) → Inside (l ++ xs) (bs ++ (b ∷ []))
 inside-more l xs bs b i h c m =
@@ -108,8 +108,8 @@ held_new : (l : List ℕ) (s : ℕ) → (On l s → ⊥) → held (l ++ (s ∷ [
 held_new l s n = held_on (l ++ (s ∷ [])) s (on-new l s) ∙ place-new l s n
 
 -- the two cells of a pair of atoms
-cell-eq : (a b c e : ℕ) → b < 64 → e < 64 → eqb (64 * a + b) (64 * c + e) ≡ (eqb a c && eqb b e)
-cell-eq a b c e h k = pick (eqb a c) refl (eqb b e) refl
+cell_eq : (a b c e : ℕ) → b < 64 → e < 64 → eqb (64 * a + b) (64 * c + e) ≡ (eqb a c && eqb b e)
+cell_eq a b c e h k = pick (eqb a c) refl (eqb b e) refl
   where
     pick : (p : Bool) → eqb a c ≡ p → (q : Bool) → eqb b e ≡ q → eqb (64 * a + b) (64 * c + e) ≡ (eqb a c && eqb b e)
     pick true f true g = rw (f, g) (let x = eqb-true a c f in let y = eqb-true b e g in let z : 64 * a + b ≡ 64 * c + e = omega arith in eq-eqb _ _ z)
@@ -152,17 +152,17 @@ marked-at : (tr : List ℕ) (a b c e : ℕ) (t : Bool) → length tr ≡ 4096 �
 marked-at tr a b c e t long ha hb hc he g =
     set_at (set tr (64 * a + b) 1) (64 * b + a) (64 * c + e) 1 (rw (length-set tr (64 * a + b) 1) (omega arith))
     ∙ ap (cond (eqb (64 * b + a) (64 * c + e)) 1) (set_at tr (64 * a + b) (64 * c + e) 1 (omega arith))
-    ∙ rw (cell-eq a b c e hb he, cell-eq b a c e ha he, eqb-suc-suc a c, eqb-suc-suc b e, eqb-suc-suc a e, eqb-suc-suc b c)
+    ∙ rw (cell_eq a b c e hb he, cell_eq b a c e ha he, eqb-suc-suc a c, eqb-suc-suc b e, eqb-suc-suc a e, eqb-suc-suc b c)
     (flag (eqb a c && eqb b e) (eqb b c && eqb a e) t _ g ∙ ap (λ (z : Bool). cond {A = ℕ} (t || z) 1 0) (both_ways (eqb a c) (eqb b e) (eqb b c) (eqb a e)))
 
 module _ (n : ℕ) (small : n ≤ 64) (pl tr : List ℕ) (w : Written) (N : Noted n pl tr w) where
   -- a hydrogen is no rank
-  pub noted-hydrogen : (r : ℕ) → On w.ranks r → Noted n pl tr (put_at r 0 0 1 w)
-  noted-hydrogen r o =
+  pub noted_hydrogen : (r : ℕ) → On w.ranks r → Noted n pl tr (put_at r 0 0 1 w)
+  noted_hydrogen r o =
       let l = w.ranks in
       record {
-        placesLong = N.placesLong;
-        tracedLong = N.tracedLong;
+        places_long = N.places_long;
+        traced_long = N.traced_long;
         place = λ a h. N.place a h ∙ sym (held-other l 0 (suc a) (λ e. omega arith));
         bond = λ a b h k. N.bond a b h k ∙ ap (λ (t : Bool). cond {A = ℕ} t 1 0) (sym (apart a b));
         inside = inside-more l (0 ∷ []) w.bonds _ N.inside (let e = length-append l (0 ∷ []) in (omega arith, omega arith));
@@ -178,32 +178,32 @@ module _ (n : ℕ) (small : n ≤ 64) (pl tr : List ℕ) (w : Written) (N : Note
               let z : length (w.ranks ++ (0 ∷ [])) ≤ place_in (w.ranks ++ (0 ∷ [])) (suc x) = far (w.ranks ++ (0 ∷ [])) (suc x) (λ q. ⊎_elim y (λ (f : suc x ≡ 0). omega arith) (on-cases w.ranks 0 (suc x) q)) in
               let g = length-append w.ranks (0 ∷ []) in omega arith)
 
-      apart : (a b : ℕ) → isTraced (put_at r 0 0 1 w) (suc a) (suc b) ≡ isTraced w (suc a) (suc b)
+      apart : (a b : ℕ) → is_traced (put_at r 0 0 1 w) (suc a) (suc b) ≡ is_traced w (suc a) (suc b)
       apart a b =
           some-snoc (joins (place_in (w.ranks ++ (0 ∷ [])) (suc a)) (place_in (w.ranks ++ (0 ∷ [])) (suc b))) w.bonds _
-          ∙ rw (past a, past b, and-false, and-false, or-false) (old-bonds w.ranks (0 ∷ []) w.bonds (suc a) (suc b) N.inside)
+          ∙ rw (past a, past b, and-false, and-false, or-false) (old_bonds w.ranks (0 ∷ []) w.bonds (suc a) (suc b) N.inside)
 
   -- a neighbour put
-  pub noted-put : (a b k m : ℕ) → a < n → b < n → On w.ranks (suc a) → (On w.ranks (suc b) → ⊥)
+  pub noted_put : (a b k m : ℕ) → a < n → b < n → On w.ranks (suc a) → (On w.ranks (suc b) → ⊥)
       → Noted n (set pl b (length w.ranks)) (marked tr a b) (put_at (suc a) (suc b) k m w)
-  noted-put a b k m ha hb o u =
+  noted_put a b k m ha hb o u =
       let l = w.ranks in
       let e = length-append l (suc b ∷ []) in
       record {
-        placesLong = length-set pl b (length l) ∙ N.placesLong;
-        tracedLong = marked-long tr a b N.tracedLong;
+        places_long = length-set pl b (length l) ∙ N.places_long;
+        traced_long = marked-long tr a b N.traced_long;
         place = λ c h. put-place c h;
         bond = λ c d h j.
-            marked-at tr a b c d (isTraced w (suc c) (suc d)) N.tracedLong (omega arith) (omega arith) (omega arith) (omega arith) (N.bond c d h j)
+            marked-at tr a b c d (is_traced w (suc c) (suc d)) N.traced_long (omega arith) (omega arith) (omega arith) (omega arith) (N.bond c d h j)
             ∙ ap (λ (t : Bool). cond {A = ℕ} t 1 0) (sym (put-bond c d));
         inside = inside-more l (suc b ∷ []) w.bonds _ N.inside (omega arith, omega arith);
       }
     where
-      put-bond : (c d : ℕ) → isTraced (put_at (suc a) (suc b) k m w) (suc c) (suc d)
-          ≡ (isTraced w (suc c) (suc d) || (eqb (suc a) (suc c) && eqb (suc b) (suc d) || eqb (suc a) (suc d) && eqb (suc b) (suc c)))
+      put-bond : (c d : ℕ) → is_traced (put_at (suc a) (suc b) k m w) (suc c) (suc d)
+          ≡ (is_traced w (suc c) (suc d) || (eqb (suc a) (suc c) && eqb (suc b) (suc d) || eqb (suc a) (suc d) && eqb (suc b) (suc c)))
       put-bond c d =
           some-snoc (joins (place_in (w.ranks ++ (suc b ∷ [])) (suc c)) (place_in (w.ranks ++ (suc b ∷ [])) (suc d))) w.bonds _
-          ∙ ap₂ ◌||◌ (old-bonds w.ranks (suc b ∷ []) w.bonds (suc c) (suc d) N.inside)
+          ∙ ap₂ ◌||◌ (old_bonds w.ranks (suc b ∷ []) w.bonds (suc c) (suc d) N.inside)
           (rw (← (place-new w.ranks (suc b) u), ← (place-more w.ranks (suc b ∷ []) (suc a) o))
           (joins-ranks (w.ranks ++ (suc b ∷ [])) (suc a) (suc b) (suc c) (suc d) m (on-more w.ranks (suc b ∷ []) (suc a) o) (on-new w.ranks (suc b))))
 
@@ -213,35 +213,35 @@ module _ (n : ℕ) (small : n ≤ 64) (pl tr : List ℕ) (w : Written) (N : Note
           pick : (z : Bool) → eqb b c ≡ z → get_or (set pl b (length w.ranks)) c 0 ≡ held (w.ranks ++ (suc b ∷ [])) (suc c)
           pick true z =
               rw (← (eqb-true b c z))
-              (get_or-set_same pl b (length w.ranks) 0 (omega (arith, N.placesLong)) ∙ sym (held_new w.ranks (suc b) u))
+              (get_or-set_same pl b (length w.ranks) 0 (omega (arith, N.places_long)) ∙ sym (held_new w.ranks (suc b) u))
           pick false z =
               get_or-set_other pl b c (length w.ranks) 0 (λ y. eqb-false b c z (sym y)) ∙ N.place c h
               ∙ sym (held-other w.ranks (suc b) (suc c) (λ y. eqb-false b c z (omega arith)))
 
   -- a ring closed
-  pub noted-close : (a b m : ℕ) → a < n → b < n → On w.ranks (suc a) → On w.ranks (suc b) → Noted n pl (marked tr a b) (closeAt (suc a) (suc b) m w)
-  noted-close a b m ha hb o u =
+  pub noted_close : (a b m : ℕ) → a < n → b < n → On w.ranks (suc a) → On w.ranks (suc b) → Noted n pl (marked tr a b) (close_at (suc a) (suc b) m w)
+  noted_close a b m ha hb o u =
       record {
-        placesLong = N.placesLong;
-        tracedLong = marked-long tr a b N.tracedLong;
+        places_long = N.places_long;
+        traced_long = marked-long tr a b N.traced_long;
         place = N.place;
         bond = λ c d h j.
-            marked-at tr a b c d (isTraced w (suc c) (suc d)) N.tracedLong (omega arith) (omega arith) (omega arith) (omega arith) (N.bond c d h j)
+            marked-at tr a b c d (is_traced w (suc c) (suc d)) N.traced_long (omega arith) (omega arith) (omega arith) (omega arith) (N.bond c d h j)
             ∙ ap (λ (t : Bool). cond {A = ℕ} t 1 0) (sym (close-bond c d));
         inside = λ c i.
             ⊎_elim (λ q. N.inside c q) (λ q. subst (λ (z : Bond). (z.one < length w.ranks) × (z.two < length w.ranks)) (sym (Memᴰ.eq_of_singleton q)) (o, u)) (Memᴰ.append_cases w.bonds i);
       }
     where
-      close-bond : (c d : ℕ) → isTraced (closeAt (suc a) (suc b) m w) (suc c) (suc d)
-          ≡ (isTraced w (suc c) (suc d) || (eqb (suc a) (suc c) && eqb (suc b) (suc d) || eqb (suc a) (suc d) && eqb (suc b) (suc c)))
+      close-bond : (c d : ℕ) → is_traced (close_at (suc a) (suc b) m w) (suc c) (suc d)
+          ≡ (is_traced w (suc c) (suc d) || (eqb (suc a) (suc c) && eqb (suc b) (suc d) || eqb (suc a) (suc d) && eqb (suc b) (suc c)))
       close-bond c d =
           some-snoc (joins (place_in w.ranks (suc c)) (place_in w.ranks (suc d))) w.bonds _
-          ∙ ap (λ (t : Bool). isTraced w (suc c) (suc d) || t) (joins-ranks w.ranks (suc a) (suc b) (suc c) (suc d) m o u)
+          ∙ ap (λ (t : Bool). is_traced w (suc c) (suc d) || t) (joins-ranks w.ranks (suc a) (suc b) (suc c) (suc d) m o u)
 
 -- an atom's hydrogens
-pub noted-hs : (n : ℕ) → n ≤ 64 → (pl tr : List ℕ) (h r : ℕ) (w : Written) → On w.ranks r → Noted n pl tr w → Noted n pl tr (putHs h r w)
-unfolding putHs
-noted-hs n small pl tr zero r w o N = N
-noted-hs n small pl tr (suc h) r w o N =
+pub noted_hs : (n : ℕ) → n ≤ 64 → (pl tr : List ℕ) (h r : ℕ) (w : Written) → On w.ranks r → Noted n pl tr w → Noted n pl tr (put_hs h r w)
+unfolding put_hs
+noted_hs n small pl tr zero r w o N = N
+noted_hs n small pl tr (suc h) r w o N =
     rw (put-served r 0 0 1 w)
-    (noted-hs n small pl tr h r (put_at r 0 0 1 w) (on-more w.ranks (0 ∷ []) r o) (noted-hydrogen n small pl tr w N r o))
+    (noted_hs n small pl tr h r (put_at r 0 0 1 w) (on-more w.ranks (0 ∷ []) r o) (noted_hydrogen n small pl tr w N r o))

@@ -7,7 +7,7 @@ use lib.ListN.{length}
 use lib.Dec.{eqb}
 use borrow.Author.Tests.{eqb-true}
 use Rattle.sling.specs.Items.{Item, at, atom, reference, ring}
-use Rattle.sling.specs.Walk.{Written, place_in, serve, put, close, putHs}
+use Rattle.sling.specs.Walk.{Written, place_in, serve, put, close, put_hs}
 
 -- what is written to go to the atom of rank r
 abbrev pub said : ℕ → Written → List Item
@@ -25,8 +25,8 @@ put_at r s k m w =
       items = w.items ++ said r w ++ (atom m k ∷ []);
     }
 
-abbrev pub closeAt : ℕ → ℕ → ℕ → Written → Written
-closeAt r s m w =
+abbrev pub close_at : ℕ → ℕ → ℕ → Written → Written
+close_at r s m w =
     record {
       ranks = w.ranks;
       bonds = w.bonds ++ (record { one = place_in w.ranks r; two = place_in w.ranks s; code = m } ∷ []);
@@ -47,12 +47,12 @@ pub put-served : (r s k m : ℕ) (w : Written) → put s k m (serve r w) ≡ put
 unfolding put
 put-served r s k m w = ap (put s k m) (serve_is r w)
 
-pub close-served : (r s m : ℕ) (w : Written) → close s m (serve r w) ≡ closeAt r s m w
+pub close-served : (r s m : ℕ) (w : Written) → close s m (serve r w) ≡ close_at r s m w
 unfolding close
 close-served r s m w = ap (close s m) (serve_is r w)
 
 -- one hydrogen more
-pub putHs-last : (h r : ℕ) (w : Written) → putHs (suc h) r w ≡ put 0 0 1 (serve r (putHs h r w))
-unfolding putHs
-putHs-last zero r w = refl
-putHs-last (suc h) r w = putHs-last h r (put 0 0 1 (serve r w))
+pub put_hs-last : (h r : ℕ) (w : Written) → put_hs (suc h) r w ≡ put 0 0 1 (serve r (put_hs h r w))
+unfolding put_hs
+put_hs-last zero r w = refl
+put_hs-last (suc h) r w = put_hs-last h r (put 0 0 1 (serve r w))

@@ -20,10 +20,10 @@ pub record Lent (t : Columns) (W : Molecule) : Type 0 where
   pub atoms : W.size ≤ 64
   pub kind_of : (a : ℕ) → a < W.size → kind W a ≡ get_or t.kinds a 0
   pub known : (a : ℕ) → a < W.size → get_or t.kinds a 0 ≤ 24
-  pub hydrogensOf : (a : ℕ) → a < W.size → hydrogens W a ≡ get_or t.hydrogens a 0
+  pub hydrogens_of : (a : ℕ) → a < W.size → hydrogens W a ≡ get_or t.hydrogens a 0
   pub few : (a : ℕ) → a < W.size → get_or t.degrees a 0 ≤ 6
   pub row : (a : ℕ) → a < W.size → neighbours W a ≡ take (get_or t.degrees a 0) (drop (6 * a) t.near)
-  pub nearLong : length t.near ≡ 384
+  pub near_long : length t.near ≡ 384
   pub inside : (a p : ℕ) → a < W.size → p < get_or t.degrees a 0 → get_or t.near (6 * a + p) 0 < W.size
   pub code_of : (a p : ℕ) → a < W.size → p < get_or t.degrees a 0 → W.code a (get_or t.near (6 * a + p) 0) ≡ get_or t.codes (6 * a + p) 0
 

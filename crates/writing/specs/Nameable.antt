@@ -1,6 +1,6 @@
 -- What the writer asks of a table.
 use Rattle.std.specs.Prelude.{ℕ, ◌<◌, ◌≤◌, length, get_or}
-use Rattle.sling.specs.Printed.{nameBytes}
+use Rattle.sling.specs.Printed.{name_bytes}
 use Rattle.table.specs.declared.Table.{Table}
 use Rattle.table.specs.View.{view_of, TidyTable}
 
@@ -9,4 +9,4 @@ pub record Nameable (t : Table) : Type 0 where
   pub tidy : TidyTable t
   pub some : 0 < t.n
   pub known : (a : ℕ) → a < t.n → get_or t.kinds a 0 ≤ 24
-  pub room : length (nameBytes (view_of t)) ≤ 2048
+  pub room : length (name_bytes (view_of t)) ≤ 2048

@@ -3,14 +3,14 @@ use Rattle.std.specs.Prelude.{Bool, true, false, cond, ◌≡◌, ℕ, suc, ◌+
 use mathlib.Core.List.{List, [], ◌∷◌, Memᴰ}
 use Rattle.molecule.specs.Bonds.{Bond}
 use Rattle.sling.specs.Items.{Item}
-use Rattle.sling.specs.Walk.{Written, place_in, is_written, isTraced}
-use Rattle.sling.specs.Printed.{bytes, endsInDigit}
+use Rattle.sling.specs.Walk.{Written, place_in, is_written, is_traced}
+use Rattle.sling.specs.Printed.{bytes, ends_in_digit}
 use Rattle.writing.specs.declared.Pen.{Pen}
 
 -- whether a digit stands behind the items, where d says whether one stands before them
-abbrev pub digitAfter : Bool → List Item → Bool
-digitAfter d [] = d
-digitAfter d (i ∷ is) = digitAfter (endsInDigit i) is
+abbrev pub digit_after : Bool → List Item → Bool
+digit_after d [] = d
+digit_after d (i ∷ is) = digit_after (ends_in_digit i) is
 
 -- how many bytes are written
 abbrev pub size : Written → ℕ
@@ -25,7 +25,7 @@ pub record Lettered (buffer : List ℕ) (p : Pen) (w : Written) : Type 0 where
   pub long : length buffer ≡ 2048
   pub room : p.length ≤ 2048
   pub text : take p.length buffer ≡ bytes false w.items
-  pub digit : p.digit ≡ digitAfter false w.items
+  pub digit : p.digit ≡ digit_after false w.items
   pub next : p.next.0 ≡ length w.ranks
   pub cursor : p.cursor.0 ≡ w.cursor
   pub few : length w.ranks ≤ p.length
@@ -44,8 +44,8 @@ marked traced a b = set (set traced (64 * a + b) 1) (64 * b + a) 1
 
 -- Of n atoms, which stand in rank order: the place of each that is written, and 1 for each two whose bond is traced.
 pub record Noted (n : ℕ) (places traced : List ℕ) (w : Written) : Type 0 where
-  pub placesLong : length places ≡ 64
-  pub tracedLong : length traced ≡ 4096
+  pub places_long : length places ≡ 64
+  pub traced_long : length traced ≡ 4096
   pub place : (a : ℕ) → a < n → get_or places a 0 ≡ cond (is_written w (suc a)) (place_in w.ranks (suc a)) 65535
-  pub bond : (a b : ℕ) → a < n → b < n → get_or traced (64 * a + b) 0 ≡ cond (isTraced w (suc a) (suc b)) 1 0
+  pub bond : (a b : ℕ) → a < n → b < n → get_or traced (64 * a + b) 0 ≡ cond (is_traced w (suc a) (suc b)) 1 0
   pub inside : (b : Bond) → Memᴰ b w.bonds → (b.one < length w.ranks) × (b.two < length w.ranks)

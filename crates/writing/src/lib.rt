@@ -1,7 +1,9 @@
 // The name of a molecule whose atoms are in rank order, written into a lent buffer.
+#![tactic(auto)]
+
 ghost use Rattle.std.specs.Prelude.{◌++◌, ◌≡◌, ◌≤◌, length, take, drop};
 ghost use Rattle.lent.specs.Written.{Written};
-ghost use Rattle.sling.specs.Printed.{nameBytes};
+ghost use Rattle.sling.specs.Printed.{name_bytes};
 ghost use Rattle.table.specs.View.{view_of};
 ghost use Rattle.writing.specs.Added.{Added};
 ghost use Rattle.writing.specs.Nameable.{Nameable};
@@ -50,7 +52,7 @@ struct Bond {
 // The name of a table whose atoms stand in rank order. The whole name is known, and its length, before a lent byte is touched.
 pub fn write(t: Table, out: &mut [u8]) -> Output
     requires { Nameable t }
-    ensures { Written (nameBytes (view_of t)) out.old out.new result }
+    ensures { Written (name_bytes (view_of t)) out.old out.new result }
 {
     let mut buffer = [0u8; Pen::ROOM];
     let length = put_name(t, &mut buffer);
@@ -60,7 +62,7 @@ pub fn write(t: Table, out: &mut [u8]) -> Output
 // "Start at rank 1. To write an atom: symbol", and what follows it.
 fn put_name(t: Table, buffer: &mut [u8; Pen::ROOM]) -> usize
     requires { Nameable t × (length buffer.old ≡ 2048) }
-    ensures { Added buffer.old buffer.new 0 result (nameBytes (view_of t)) }
+    ensures { Added buffer.old buffer.new 0 result (name_bytes (view_of t)) }
 {
     let n = t.n;
     let mut places = [Place::NOWHERE; Table::MAX_ATOMS];

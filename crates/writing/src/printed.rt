@@ -1,7 +1,7 @@
 // The bytes of an item, put into the buffer from `here` on. Each function hands back where the next byte goes.
 ghost use Rattle.std.specs.Prelude.{◌++◌, ◌∷◌, ◌≡◌, ◌+◌, ◌<◌, ◌≤◌};
 ghost use Rattle.sling.specs.Items.{at, reference};
-ghost use Rattle.sling.specs.Printed.{decimal, markBytes, symbolBytes, itemBytes};
+ghost use Rattle.sling.specs.Printed.{decimal, mark_bytes, symbol_bytes, item_bytes};
 ghost use Rattle.writing.specs.Added.{Room, Added};
 
 use crate::{Pen, Place};
@@ -34,8 +34,8 @@ pub fn put_place(buffer: &mut [u8; Pen::ROOM], here: usize, place: Place) -> usi
 }
 
 pub fn put_mark(buffer: &mut [u8; Pen::ROOM], here: usize, code: u8) -> usize
-    requires { Room buffer.old here (markBytes code) }
-    ensures { Added buffer.old buffer.new here result (markBytes code) }
+    requires { Room buffer.old here (mark_bytes code) }
+    ensures { Added buffer.old buffer.new here result (mark_bytes code) }
 {
     if code == 2 {
         buffer[here] = b'=';
@@ -53,8 +53,8 @@ pub fn put_mark(buffer: &mut [u8; Pen::ROOM], here: usize, code: u8) -> usize
 }
 
 pub fn put_symbol(buffer: &mut [u8; Pen::ROOM], here: usize, kind: u8) -> usize
-    requires { (kind ≤ 24) × Room buffer.old here (symbolBytes kind) }
-    ensures { Added buffer.old buffer.new here result (symbolBytes kind) }
+    requires { (kind ≤ 24) × Room buffer.old here (symbol_bytes kind) }
+    ensures { Added buffer.old buffer.new here result (symbol_bytes kind) }
 {
     let capital = kinds::capital_of(kind);
     let small = kinds::small_of(kind);
@@ -70,16 +70,16 @@ pub fn put_symbol(buffer: &mut [u8; Pen::ROOM], here: usize, kind: u8) -> usize
 }
 
 pub fn put_atom(buffer: &mut [u8; Pen::ROOM], here: usize, code: u8, kind: u8) -> usize
-    requires { (kind ≤ 24) × Room buffer.old here (markBytes code ++ symbolBytes kind) }
-    ensures { Added buffer.old buffer.new here result (markBytes code ++ symbolBytes kind) }
+    requires { (kind ≤ 24) × Room buffer.old here (mark_bytes code ++ symbol_bytes kind) }
+    ensures { Added buffer.old buffer.new here result (mark_bytes code ++ symbol_bytes kind) }
 {
     let next = put_mark(buffer, here, code);
     put_symbol(buffer, next, kind)
 }
 
 pub fn put_reference(buffer: &mut [u8; Pen::ROOM], here: usize, digit: bool, place: Place) -> usize
-    requires { (place.0 < 2048) × Room buffer.old here (itemBytes digit (reference (at place.0))) }
-    ensures { Added buffer.old buffer.new here result (itemBytes digit (reference (at place.0))) }
+    requires { (place.0 < 2048) × Room buffer.old here (item_bytes digit (reference (at place.0))) }
+    ensures { Added buffer.old buffer.new here result (item_bytes digit (reference (at place.0))) }
 {
     if digit {
         buffer[here] = b'+';
@@ -89,8 +89,8 @@ pub fn put_reference(buffer: &mut [u8; Pen::ROOM], here: usize, digit: bool, pla
 }
 
 pub fn put_ring(buffer: &mut [u8; Pen::ROOM], here: usize, code: u8, place: Place) -> usize
-    requires { (place.0 < 2048) × Room buffer.old here (markBytes code ++ 47 ∷ decimal place.0) }
-    ensures { Added buffer.old buffer.new here result (markBytes code ++ 47 ∷ decimal place.0) }
+    requires { (place.0 < 2048) × Room buffer.old here (mark_bytes code ++ 47 ∷ decimal place.0) }
+    ensures { Added buffer.old buffer.new here result (mark_bytes code ++ 47 ∷ decimal place.0) }
 {
     let next = put_mark(buffer, here, code);
     buffer[next] = b'/';

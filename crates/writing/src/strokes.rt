@@ -1,6 +1,6 @@
 // The strokes of the walk: to serve an atom, to put one, its hydrogens, and to close a ring.
 ghost use Rattle.std.specs.Prelude.{◌≡◌, ℕ, ◌<◌, ◌≤◌, set};
-ghost use Rattle.sling.specs.Walk.{Written, serve, put, close, putHs};
+ghost use Rattle.sling.specs.Walk.{Written, serve, put, close, put_hs};
 ghost use Rattle.writing.specs.Shown.{size, Lettered, Asks, Draws, marked};
 ghost use Rattle.writing.specs.Strokes.{RingAsks, RingDraws, BranchAsks, BranchDraws};
 
@@ -67,8 +67,8 @@ fn put_hydrogen(buffer: &mut [u8; Pen::ROOM], place: Place, pen: Pen) -> Pen
 
 // "then its hydrogens, each H an atom"
 pub fn put_hydrogens(buffer: &mut [u8; Pen::ROOM], place: Place, count: u8, pen: Pen) -> Pen
-    requires { Asks (putHs count) place.0 buffer.old pen }
-    ensures { Draws (putHs count) place.0 buffer.old buffer.new pen result }
+    requires { Asks (put_hs count) place.0 buffer.old pen }
+    ensures { Draws (put_hs count) place.0 buffer.old buffer.new pen result }
 {
     let mut moved = pen;
     let mut h: u8 = 0;

@@ -6,7 +6,7 @@ use lib.ListN.{length}
 use lib.Seq.{length-take-le}
 use borrow.Author.Rules.{rules}
 use Rattle.lines.specs.Gathered.{Inside}
-use Rattle.lines.proofs.Putting.{prints-fits}
+use Rattle.lines.proofs.Putting.{prints_fits}
 use Rattle.answering.proofs.run.Statement.{statement}
 use Rattle.answering.proofs.run.Tie as tie
 
@@ -54,10 +54,10 @@ answer-requires : tie.Need-answer-requires invariant-loop decreases-loop
 answer-requires c κs = search rules
 
 array-share-prefix-printed : tie.Need-array-share-prefix-printed invariant-loop decreases-loop
-array-share-prefix-printed c = prints-fits _ _ _ _ c.before.before.answer.ensures.0
+array-share-prefix-printed c = prints_fits _ _ _ _ c.before.before.answer.ensures.0
 
 slice-aggregate-write-all : tie.Need-slice-aggregate-write-all invariant-loop decreases-loop
-slice-aggregate-write-all c = sym (length-take-le _ _ (prints-fits _ _ _ _ c.before.before.before.answer.ensures.0))
+slice-aggregate-write-all c = sym (length-take-le _ _ (prints_fits _ _ _ _ c.before.before.before.answer.ensures.0))
 
 write-all-requires : tie.Need-write-all-requires invariant-loop decreases-loop
 write-all-requires c κs = search rules

@@ -2,13 +2,13 @@
 use mathlib.Core.Bool.{true}
 use mathlib.Core.Path.{◌≡◌, sym, ◌∙◌}
 use borrow.Author.Tests.{not-true, not-false}
-use Rattle.molecule.specs.Layout.{inLayout}
-use Rattle.card.proofs.Whole.{counts-low, read-broken, read-counts, read-atomic, read-bonded, read-ready, read-apart, read_whole}
+use Rattle.molecule.specs.Layout.{in_layout}
+use Rattle.card.proofs.Whole.{counts_low, read-broken, read-counts, read-atomic, read-bonded, read-ready, read-apart, read_whole}
 use borrow.Author.Rules.{rules}
 use Rattle.card.proofs.read.Statement.{statement}
 use Rattle.card.proofs.read.Tie as tie
 
-sound : (i : tie.Else1) → inLayout i.before.before.before.before.args.card.now ≡ true
+sound : (i : tie.Else1) → in_layout i.before.before.before.before.args.card.now ≡ true
 sound i = sym i.before.before.find-fields.ensures.sound ∙ not-false _ i.if1.false
 
 find-fields-requires : tie.Need-find-fields-requires
@@ -42,7 +42,7 @@ read-atoms-requires c κs =
     let i = q.before in
     let s = i.before.before.before.before.args.card.now in
     let F = i.before.before.find-fields.ensures in
-    (sound i, F.atoms (sound i), (counts-low i.before.before.find-fields.result.atoms i.before.before.find-fields.result.bonds (sym q.counts-fault.ensures ∙ c.if2.false)).1)
+    (sound i, F.atoms (sound i), (counts_low i.before.before.find-fields.result.atoms i.before.before.find-fields.result.bonds (sym q.counts-fault.ensures ∙ c.if2.false)).1)
 
 returns-3 : tie.Need-returns-3
 returns-3 c =

@@ -5,7 +5,7 @@ use mathlib.Core.Path.{◌≡◌, sym}
 use Prim.Native.Nat.{ℕ, ◌-◌, ◌<◌, ◌≤◌}
 use native.Mathlib.Omega.{arith}
 use lib.ListN.{get_or}
-use Rattle.kinds.proofs.Arrays.{capitals, smalls, letters-found, letters-none, no_second}
+use Rattle.kinds.proofs.Arrays.{capitals, smalls, letters_found, letters_none, no_second}
 use borrow.Author.Rules.{rules}
 use Rattle.kinds.proofs.kind_of_letters.Statement.{statement}
 use Rattle.kinds.proofs.kind_of_letters.Tie as tie
@@ -36,7 +36,7 @@ unfolding capitals smalls
 returns-2 c =
     let s = c.before.before.before.before.before in
     let l = c.before.before.before in
-    sym (letters-found s.args.capital s.args.small l.loop.k (omega arith) c.before.if2.true c.if3.true l.before.if1.false)
+    sym (letters_found s.args.capital s.args.small l.loop.k (omega arith) c.before.if2.true c.if3.true l.before.if1.false)
 
 add-k : tie.Need-overflow-add-k invariant-loop decreases-loop
 add-k c = search rules
@@ -57,7 +57,7 @@ loop-again c =
 returns-3 : tie.Need-returns-3 invariant-loop decreases-loop
 returns-3 c =
     let s = c.before.before.before in
-    sym (letters-none s.args.capital s.args.small (λ k h. c.before.loop.invariant.1 k (omega arith)))
+    sym (letters_none s.args.capital s.args.small (λ k h. c.before.loop.invariant.1 k (omega arith)))
 
 pub kind-of-letters-spec : {M : Type 1} → statement M
 kind-of-letters-spec =

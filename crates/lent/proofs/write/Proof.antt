@@ -5,7 +5,7 @@ use Prim.Native.Nat.{ℕ, ◌+◌, ◌-◌, ◌≤◌}
 use native.Mathlib.Omega.{arith}
 use borrow.Author.Rules.{rules}
 use lib.ListN.{length, get_or, set, take, drop}
-use Rattle.lent.proofs.Copied.{copied_next, copied-long, copied_all}
+use Rattle.lent.proofs.Copied.{copied_next, copied_long, copied_all}
 use Rattle.lent.proofs.Outcomes.{too_short, written}
 use Rattle.lent.proofs.write.Statement.{statement}
 use Rattle.lent.proofs.write.Tie as tie
@@ -19,7 +19,7 @@ decreases-loop bytes out₀ n i₀ out i = n - i
 held : (c : tie.At-loop invariant-loop decreases-loop) → length c.loop.out ≡ length c.before.before.args.out.now
 held c =
     let a = c.before.before.args in
-    ap length c.loop.invariant.3 ∙ copied-long a.bytes.now a.out.now c.loop.i (omega arith) (omega arith)
+    ap length c.loop.invariant.3 ∙ copied_long a.bytes.now a.out.now c.loop.i (omega arith) (omega arith)
 
 returns : tie.Need-returns invariant-loop decreases-loop
 returns c = too_short _ _ c.if1.true

@@ -6,7 +6,7 @@ use lib.ListN.{length}
 use lib.Seq.{length-take-le}
 use borrow.Author.Rules.{rules}
 use Rattle.lines.specs.Gathered.{Inside}
-use Rattle.lines.proofs.Putting.{prints-fits}
+use Rattle.lines.proofs.Putting.{prints_fits}
 use Rattle.molnaming.proofs.run_records.Statement.{statement}
 use Rattle.molnaming.proofs.run_records.Tie as tie
 
@@ -54,10 +54,10 @@ record-line-requires : tie.Need-record-line-requires invariant-loop decreases-lo
 record-line-requires c κs = search rules
 
 array-share-prefix-printed : tie.Need-array-share-prefix-printed invariant-loop decreases-loop
-array-share-prefix-printed c = prints-fits _ _ _ _ c.before.record-line.ensures
+array-share-prefix-printed c = prints_fits _ _ _ _ c.before.record-line.ensures
 
 slice-aggregate-write-all : tie.Need-slice-aggregate-write-all invariant-loop decreases-loop
-slice-aggregate-write-all c = sym (length-take-le _ _ (prints-fits _ _ _ _ c.before.before.record-line.ensures))
+slice-aggregate-write-all c = sym (length-take-le _ _ (prints_fits _ _ _ _ c.before.before.record-line.ensures))
 
 write-all-requires : tie.Need-write-all-requires invariant-loop decreases-loop
 write-all-requires c κs = search rules

@@ -3,7 +3,7 @@ use Prim.Native.Nat.{◌+◌, ◌≤◌}
 use native.Mathlib.Omega.{arith}
 use lib.ListN.{length}
 use borrow.Author.Rules.{rules}
-use Rattle.lines.proofs.Putting.{puts-more, printed, three-most, dash-most}
+use Rattle.lines.proofs.Putting.{puts_more, printed, three_most, dash_most}
 use Rattle.naming.specs.Lines.{shown}
 use Rattle.naming.proofs.put_name.Statement.{statement}
 use Rattle.naming.proofs.put_name.Tie as tie
@@ -20,12 +20,12 @@ put-three-requires c κs = search rules
 put-text-requires : tie.Need-put-text-requires
 put-text-requires c κs =
     let a = c.before.before.before.before.before.before.before.before.before.args.a in
-    omega (arith, c.before.before.before.put_three.ensures.long, three-most a.refusal a.place a.leaves)
+    omega (arith, c.before.before.before.put_three.ensures.long, three_most a.refusal a.place a.leaves)
 
 put-newline-requires : tie.Need-put-newline-requires
 put-newline-requires c κs =
     let a = c.before.before.before.before.before.before.before.before.before.before.before.before.before.args.a in
-    omega (arith, c.before.before.before.put-text.ensures.long, c.before.before.before.before.before.before.before.put_three.ensures.long, three-most a.refusal a.place a.leaves, dash-most c.before.before.before.before.before.before.before.before.before.before.before.before.before.args.name.now)
+    omega (arith, c.before.before.before.put-text.ensures.long, c.before.before.before.before.before.before.before.put_three.ensures.long, three_most a.refusal a.place a.leaves, dash_most c.before.before.before.before.before.before.before.before.before.before.before.before.before.args.name.now)
 
 same_length : tie.Need-same-length
 same_length c = search rules
@@ -38,8 +38,8 @@ returns c =
     let three = c.before.before.before.before.before.before.before.before.before.before.put_three.ensures in
     let text = c.before.before.before.before.before.before.put-text.ensures in
     let end = c.before.before.put-newline.ensures in
-    let few : c.before.before.put-newline.result ≤ length name + 65 = omega (arith, three.long, text.long, end.long, three-most a.refusal a.place a.leaves, dash-most name) in
-    printed _ _ _ _ (puts-more _ _ _ _ _ _ _ _ (omega arith) three (puts-more _ _ _ _ _ _ _ _ (omega arith) text end))
+    let few : c.before.before.put-newline.result ≤ length name + 65 = omega (arith, three.long, text.long, end.long, three_most a.refusal a.place a.leaves, dash_most name) in
+    printed _ _ _ _ (puts_more _ _ _ _ _ _ _ _ (omega arith) three (puts_more _ _ _ _ _ _ _ _ (omega arith) text end))
 
 pub put-name-spec : {M : Type 1} → statement M
 put-name-spec =

@@ -1,7 +1,7 @@
 use mathlib.Core.Path.{sym}
 use lib.Seq.{length-take-le}
 use borrow.Author.Rules.{rules}
-use Rattle.lines.proofs.Putting.{prints-fits}
+use Rattle.lines.proofs.Putting.{prints_fits}
 use Rattle.naming.proofs.run.Statement.{statement}
 use Rattle.naming.proofs.run.Tie as tie
 
@@ -30,10 +30,10 @@ name-line-requires : tie.Need-name-line-requires
 name-line-requires c κs = search rules
 
 array-share-prefix-printed : tie.Need-array-share-prefix-printed
-array-share-prefix-printed c = prints-fits _ _ _ _ c.before.name-line.ensures
+array-share-prefix-printed c = prints_fits _ _ _ _ c.before.name-line.ensures
 
 slice-aggregate-write-all : tie.Need-slice-aggregate-write-all
-slice-aggregate-write-all c = sym (length-take-le _ _ (prints-fits _ _ _ _ c.before.before.name-line.ensures))
+slice-aggregate-write-all c = sym (length-take-le _ _ (prints_fits _ _ _ _ c.before.before.name-line.ensures))
 
 write-all-requires : tie.Need-write-all-requires
 write-all-requires c κs = search rules

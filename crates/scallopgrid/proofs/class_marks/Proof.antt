@@ -3,7 +3,7 @@ use mathlib.Core.List.{List}
 use mathlib.Core.Path.{subst}
 use Prim.Native.Nat.{ℕ}
 use Rattle.lent.specs.Written.{Written}
-use Rattle.rules.specs.Answers.{marksOut, marksOf}
+use Rattle.rules.specs.Answers.{marks_out, marks_of}
 use Rattle.scallopgrid.proofs.Faults.{card-answers}
 use Rattle.scallopgrid.proofs.Steps.{card-numbers, marks-few, marks-are}
 use Rattle.scallopgrid.proofs.Runs.{run-refused, run-written}
@@ -21,8 +21,8 @@ refused-requires : tie.Need-refused-requires
 refused-requires c κs = search rules
 
 returns : tie.Need-returns
-unfolding marksOf
-returns c = run-refused marksOut _ _ _ _ _ (card-numbers _ _ _ c.before.before.before.before.read.ensures _ c.before.before.before.number.ensures) _ _ (card-answers marksOut _ _ _) c.before.if1.true _ c.refused.ensures
+unfolding marks_of
+returns c = run-refused marks_out _ _ _ _ _ (card-numbers _ _ _ c.before.before.before.before.read.ensures _ c.before.before.before.number.ensures) _ _ (card-answers marks_out _ _ _) c.before.if1.true _ c.refused.ensures
 
 write-requires : tie.Need-write-requires
 write-requires c κs = marks-few _ _ _ _ (card-numbers _ _ _ c.before.before.before.before.before.read.ensures _ c.before.before.before.before.number.ensures) c.before.before.if1.false
@@ -34,12 +34,12 @@ same_length : tie.Need-same-length
 same_length c = search rules
 
 returns-2 : tie.Need-returns-2
-unfolding marksOf
+unfolding marks_of
 returns-2 c =
     let N = card-numbers _ _ _ c.before.before.before.before.before.before.before.before.before.read.ensures _ c.before.before.before.before.before.before.before.before.number.ensures in
     let z = c.before.before.before.before.before.before.if1.false in
     let a = c.before.before.before.before.before.before.before.before.before.before.before.before.args in
-    run-written marksOut _ _ _ _ _ N _ _ (card-answers marksOut _ _ _) z _ _
+    run-written marks_out _ _ _ _ _ N _ _ (card-answers marks_out _ _ _) z _ _
     (subst (λ (l : List ℕ). Written l a.out.now c.before.before.before.write.new.1.0 c.before.before.before.write.result) (marks-are _ _ _ _ N z) c.before.before.before.write.ensures) _ c.answered.ensures
 
 pub class-marks-spec : {M : Type 1} → statement M

@@ -3,7 +3,7 @@ use mathlib.Core.List.{List}
 use mathlib.Core.Path.{subst}
 use Prim.Native.Nat.{ℕ}
 use Rattle.lent.specs.Written.{Written}
-use Rattle.rules.specs.Answers.{nameOut, name_of}
+use Rattle.rules.specs.Answers.{name_out, name_of}
 use Rattle.scallopgrid.proofs.Faults.{card-answers}
 use Rattle.scallopgrid.proofs.Steps.{card-numbers, ready, nameable, name-is}
 use Rattle.scallopgrid.proofs.Runs.{run-refused, run-written}
@@ -22,7 +22,7 @@ refused-requires c κs = search rules
 
 returns : tie.Need-returns
 unfolding name_of
-returns c = run-refused nameOut _ _ _ _ _ (card-numbers _ _ _ c.before.before.before.before.read.ensures _ c.before.before.before.number.ensures) _ _ (card-answers nameOut _ _ _) c.before.if1.true _ c.refused.ensures
+returns c = run-refused name_out _ _ _ _ _ (card-numbers _ _ _ c.before.before.before.before.read.ensures _ c.before.before.before.number.ensures) _ _ (card-answers name_out _ _ _) c.before.if1.true _ c.refused.ensures
 
 renumbered-requires : tie.Need-renumbered-requires
 renumbered-requires c κs = ready _ _ _ _ (card-numbers _ _ _ c.before.before.before.before.before.read.ensures _ c.before.before.before.before.number.ensures) c.before.before.if1.false
@@ -43,7 +43,7 @@ returns-2 c =
     let z = c.before.before.before.before.before.before.before.before.if1.false in
     let u = c.before.before.before.before.before.renumbered.ensures in
     let a = c.before.before.before.before.before.before.before.before.before.before.before.before.before.before.args in
-    run-written nameOut _ _ _ _ _ N _ _ (card-answers nameOut _ _ _) z _ _
+    run-written name_out _ _ _ _ _ N _ _ (card-answers name_out _ _ _) z _ _
     (subst (λ (l : List ℕ). Written l a.out.now c.before.before.before.write.new.1.0 c.before.before.before.write.result) (name-is _ _ _ _ N z _ u.0 u.1) c.before.before.before.write.ensures) _ c.answered.ensures
 
 pub name-of-card-spec : {M : Type 1} → statement M

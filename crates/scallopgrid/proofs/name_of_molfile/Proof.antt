@@ -3,8 +3,8 @@ use mathlib.Core.List.{List}
 use mathlib.Core.Path.{◌∙◌, ap, subst}
 use Prim.Native.Nat.{ℕ}
 use Rattle.lent.specs.Written.{Written}
-use Rattle.rules.specs.Answers.{nameOut}
-use Rattle.scallopgrid.proofs.Molfiles.{molfile-answers, molfile-numbers}
+use Rattle.rules.specs.Answers.{name_out}
+use Rattle.scallopgrid.proofs.Molfiles.{molfile_answers, molfile_numbers}
 use Rattle.scallopgrid.proofs.Steps.{ready, nameable, name-is}
 use Rattle.scallopgrid.proofs.Runs.{run-refused, run-written}
 use borrow.Author.Rules.{rules}
@@ -24,14 +24,14 @@ returns : tie.Need-returns
 returns c =
     let R = c.before.before.before.before.read.ensures in
     let n = c.before.before.before.number in
-    run-refused nameOut _ _ _ _ _ (molfile-numbers _ _ _ R _ n.ensures) _ _ (molfile-answers _ _ _) c.before.if1.true _
+    run-refused name_out _ _ _ _ _ (molfile_numbers _ _ _ R _ n.ensures) _ _ (molfile_answers _ _ _) c.before.if1.true _
     (c.refused.ensures ∙ ap (λ (p : ℕ). record { refusal = n.result.refusal; place = p; leaves = 0; length = 0 }) R.place)
 
 renumbered-requires : tie.Need-renumbered-requires
-renumbered-requires c κs = ready _ _ _ _ (molfile-numbers _ _ _ c.before.before.before.before.before.read.ensures _ c.before.before.before.before.number.ensures) c.before.before.if1.false
+renumbered-requires c κs = ready _ _ _ _ (molfile_numbers _ _ _ c.before.before.before.before.before.read.ensures _ c.before.before.before.before.number.ensures) c.before.before.if1.false
 
 write-requires : tie.Need-write-requires
-write-requires c κs = nameable _ _ _ _ (molfile-numbers _ _ _ c.before.before.before.before.before.before.before.read.ensures _ c.before.before.before.before.before.before.number.ensures) c.before.before.before.before.if1.false _ c.before.renumbered.ensures.0 c.before.renumbered.ensures.1
+write-requires c κs = nameable _ _ _ _ (molfile_numbers _ _ _ c.before.before.before.before.before.before.before.read.ensures _ c.before.before.before.before.before.before.number.ensures) c.before.before.before.before.if1.false _ c.before.renumbered.ensures.0 c.before.renumbered.ensures.1
 
 answered-requires : tie.Need-answered-requires
 answered-requires c κs = search rules
@@ -41,11 +41,11 @@ same_length c = search rules
 
 returns-2 : tie.Need-returns-2
 returns-2 c =
-    let N = molfile-numbers _ _ _ c.before.before.before.before.before.before.before.before.before.before.before.read.ensures _ c.before.before.before.before.before.before.before.before.before.before.number.ensures in
+    let N = molfile_numbers _ _ _ c.before.before.before.before.before.before.before.before.before.before.before.read.ensures _ c.before.before.before.before.before.before.before.before.before.before.number.ensures in
     let z = c.before.before.before.before.before.before.before.before.if1.false in
     let u = c.before.before.before.before.before.renumbered.ensures in
     let a = c.before.before.before.before.before.before.before.before.before.before.before.before.before.before.args in
-    run-written nameOut _ _ _ _ _ N _ _ (molfile-answers _ _ _) z _ _
+    run-written name_out _ _ _ _ _ N _ _ (molfile_answers _ _ _) z _ _
     (subst (λ (l : List ℕ). Written l a.out.now c.before.before.before.write.new.1.0 c.before.before.before.write.result) (name-is _ _ _ _ N z _ u.0 u.1) c.before.before.before.write.ensures) _ c.answered.ensures
 
 pub name-of-molfile-spec : {M : Type 1} → statement M

@@ -2,7 +2,7 @@
 use mathlib.Core.Path.{◌∙◌, sym}
 use Rattle.text.specs.Holding.{view_of}
 use Rattle.text.proofs.ReachedLaws.{reached-reader}
-use Rattle.text.proofs.AnswerLaws.{answer-1, answer-4, answer-item, answer-7, answer-10, answer-0, folded-known}
+use Rattle.text.proofs.AnswerLaws.{answer_1, answer_4, answer_item, answer_7, answer_10, answer_0, folded-known}
 use borrow.Author.Rules.{rules}
 use Rattle.text.proofs.card_of.Statement.{statement}
 use Rattle.text.proofs.card_of.Tie as tie
@@ -20,7 +20,7 @@ refused-requires c κs = search rules
 
 -- src/lib.rt:57:9
 returns : tie.Need-returns
-returns c = answer-1 _ _ _ c.refused.ensures c.before.if1.true
+returns c = answer_1 _ _ _ c.refused.ensures c.before.if1.true
 
 -- src/lib.rt:60:9
 refused-requires-2 : tie.Need-refused-requires-2
@@ -28,7 +28,7 @@ refused-requires-2 c κs = search rules
 
 -- src/lib.rt:60:9
 returns-2 : tie.Need-returns-2
-returns-2 c = answer-4 _ _ c.before.before.if1.false _ c.refused2.ensures c.before.if2.true
+returns-2 c = answer_4 _ _ c.before.before.if1.false _ c.refused2.ensures c.before.if2.true
 
 -- src/lib.rt:62:9
 read-requires : tie.Need-read-requires
@@ -40,7 +40,7 @@ refused-requires-3 c κs = search rules
 
 -- src/lib.rt:64:9
 returns-3 : tie.Need-returns-3
-returns-3 c = answer-item _ _ c.before.before.before.before.before.if1.false c.before.before.before.before.if2.false _ _ _ c.before.before.before.read.ensures.is _ c.refused3.ensures c.before.if3.true
+returns-3 c = answer_item _ _ c.before.before.before.before.before.if1.false c.before.before.before.before.if2.false _ _ _ c.before.before.before.read.ensures.is _ c.refused3.ensures c.before.if3.true
 
 -- src/lib.rt:67:8
 lone-h-requires : tie.Need-lone-h-requires
@@ -53,7 +53,7 @@ refused-requires-4 c κs = search rules
 -- src/lib.rt:68:9
 returns-4 : tie.Need-returns-4
 returns-4 c =
-    answer-7 _ _ c.before.before.before.before.before.before.before.before.if1.false c.before.before.before.before.before.before.before.if2.false _ _ _ c.before.before.before.before.before.before.read.ensures.is c.before.before.before.before.if3.false _ c.refused4.ensures (sym c.before.before.lone-h.ensures ∙ c.before.if4.true)
+    answer_7 _ _ c.before.before.before.before.before.before.before.before.if1.false c.before.before.before.before.before.before.before.if2.false _ _ _ c.before.before.before.before.before.before.read.ensures.is c.before.before.before.before.if3.false _ c.refused4.ensures (sym c.before.before.lone-h.ensures ∙ c.before.if4.true)
 
 -- src/lib.rt:70:31
 folded-requires : tie.Need-folded-requires
@@ -76,7 +76,7 @@ same_length c = search rules
 -- src/lib.rt:72:9
 returns-5 : tie.Need-returns-5
 returns-5 c =
-    answer-10 _ _ c.before.before.before.before.before.before.before.before.before.before.before.before.before.before.before.if1.false c.before.before.before.before.before.before.before.before.before.before.before.before.before.before.if2.false _ _ _ c.before.before.before.before.before.before.before.before.before.before.before.before.before.read.ensures.is c.before.before.before.before.before.before.before.before.before.before.before.if3.false (sym c.before.before.before.before.before.before.before.before.before.lone-h.ensures ∙ c.before.before.before.before.before.before.before.before.if4.false) _ c.before.before.before.before.before.before.before.folded.ensures.1
+    answer_10 _ _ c.before.before.before.before.before.before.before.before.before.before.before.before.before.before.before.if1.false c.before.before.before.before.before.before.before.before.before.before.before.before.before.before.if2.false _ _ _ c.before.before.before.before.before.before.before.before.before.before.before.before.before.read.ensures.is c.before.before.before.before.before.before.before.before.before.before.before.if3.false (sym c.before.before.before.before.before.before.before.before.before.lone-h.ensures ∙ c.before.before.before.before.before.before.before.before.if4.false) _ c.before.before.before.before.before.before.before.folded.ensures.1
     _ _ c.before.before.before.before.before.write.ensures _ c.refused5.ensures c.before.if5.true
 
 -- src/lib.rt:52:1
@@ -86,7 +86,7 @@ same-length-2 c = search rules
 -- src/lib.rt:52:1
 returns-6 : tie.Need-returns-6
 returns-6 c =
-    answer-0 _ _ c.before.before.before.before.before.before.before.before.before.before.before.before.before.before.if1.false c.before.before.before.before.before.before.before.before.before.before.before.before.before.if2.false _ _ _ c.before.before.before.before.before.before.before.before.before.before.before.before.read.ensures.is c.before.before.before.before.before.before.before.before.before.before.if3.false (sym c.before.before.before.before.before.before.before.before.lone-h.ensures ∙ c.before.before.before.before.before.before.before.if4.false) _ c.before.before.before.before.before.before.folded.ensures.1
+    answer_0 _ _ c.before.before.before.before.before.before.before.before.before.before.before.before.before.before.if1.false c.before.before.before.before.before.before.before.before.before.before.before.before.before.if2.false _ _ _ c.before.before.before.before.before.before.before.before.before.before.before.before.read.ensures.is c.before.before.before.before.before.before.before.before.before.before.if3.false (sym c.before.before.before.before.before.before.before.before.lone-h.ensures ∙ c.before.before.before.before.before.before.before.if4.false) _ c.before.before.before.before.before.before.folded.ensures.1
     _ _ c.before.before.before.before.write.ensures c.if5.false
 
 pub card-of-spec : {M : Type 1} → statement M

@@ -2,7 +2,7 @@ use mathlib.Core.Path.{refl}
 use borrow.Author.Rules.{rules}
 use Rattle.sling.specs.Walk.{first}
 use Rattle.table.specs.View.{view_of}
-use Rattle.writing.proofs.Top.{first-known, first-room, walk-ready, name-added}
+use Rattle.writing.proofs.Top.{first-known, first-room, walk_ready, name-added}
 use borrow.Author.Rules.{rules}
 use Rattle.writing.proofs.put_name.Statement.{statement}
 use Rattle.writing.proofs.put_name.Tie as tie
@@ -17,10 +17,10 @@ put-symbol-requires : tie.Need-put-symbol-requires
 put-symbol-requires c κs = (first-known c.before.before.args.t1 c.before.before.requires.0, first-room c.before.before.args.t1 c.before.before.requires.0 _ c.before.before.requires.1)
 
 finish-requires : tie.Need-finish-requires
-finish-requires c κs = (view_of c.before.before.before.before.before.before.before.before.before.before.before.before.args.t1, first (view_of c.before.before.before.before.before.before.before.before.before.before.before.before.args.t1), walk-ready c.before.before.before.before.before.before.before.before.before.before.before.before.args.t1 c.before.before.before.before.before.before.before.before.before.before.before.before.requires.0 _ _ _ c.before.before.before.before.before.before.before.before.before.put-symbol.ensures refl refl refl)
+finish-requires c κs = (view_of c.before.before.before.before.before.before.before.before.before.before.before.before.args.t1, first (view_of c.before.before.before.before.before.before.before.before.before.before.before.before.args.t1), walk_ready c.before.before.before.before.before.before.before.before.before.before.before.before.args.t1 c.before.before.before.before.before.before.before.before.before.before.before.before.requires.0 _ _ _ c.before.before.before.before.before.before.before.before.before.put-symbol.ensures refl refl refl)
 
 returns : tie.Need-returns
-returns c = name-added c.before.before.before.before.before.before.before.before.before.before.before.before.before.args.t1 c.before.before.before.before.before.before.before.before.before.before.before.before.before.requires.0 _ (c.finish.ensures (view_of c.before.before.before.before.before.before.before.before.before.before.before.before.before.args.t1) (first (view_of c.before.before.before.before.before.before.before.before.before.before.before.before.before.args.t1)) (walk-ready c.before.before.before.before.before.before.before.before.before.before.before.before.before.args.t1 c.before.before.before.before.before.before.before.before.before.before.before.before.before.requires.0 _ _ _ c.before.before.before.before.before.before.before.before.before.before.put-symbol.ensures refl refl refl)) _
+returns c = name-added c.before.before.before.before.before.before.before.before.before.before.before.before.before.args.t1 c.before.before.before.before.before.before.before.before.before.before.before.before.before.requires.0 _ (c.finish.ensures (view_of c.before.before.before.before.before.before.before.before.before.before.before.before.before.args.t1) (first (view_of c.before.before.before.before.before.before.before.before.before.before.before.before.before.args.t1)) (walk_ready c.before.before.before.before.before.before.before.before.before.before.before.before.before.args.t1 c.before.before.before.before.before.before.before.before.before.before.before.before.before.requires.0 _ _ _ c.before.before.before.before.before.before.before.before.before.before.put-symbol.ensures refl refl refl)) _
 
 pub put-name-spec : {M : Type 1} → statement M
 put-name-spec =

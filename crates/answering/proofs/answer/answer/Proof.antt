@@ -2,9 +2,9 @@ use mathlib.Core.Path.{ap, sym, ◌∙◌}
 use native.Mathlib.Omega.{arith}
 use borrow.Author.Rules.{rules}
 use Rattle.lines.proofs.Fronted.{copied}
-use Rattle.answering.specs.Requests.{isInput}
-use Rattle.answering.specs.Answers.{answerLine, bufferAfter}
-use Rattle.answering.proofs.Requested.{request-asks}
+use Rattle.answering.specs.Requests.{is_input}
+use Rattle.answering.specs.Answers.{answer_line, buffer_after}
+use Rattle.answering.proofs.Requested.{request_asks}
 use Rattle.answering.proofs.answer.answer.Statement.{statement}
 use Rattle.answering.proofs.answer.answer.Tie as tie
 
@@ -27,7 +27,7 @@ same_length : tie.Need-same-length
 same_length c = search rules
 
 returns : tie.Need-returns
-unfolding answerLine bufferAfter
+unfolding answer_line buffer_after
 returns c =
     let broken = sym c.before.before.before.before.before.before.before.request-of.ensures ∙ c.before.before.before.before.before.enum_told.given.1 in
     (rw broken (copied _ _ _ _ c.before.before.copy.ensures.0 c.before.before.copy.ensures.1), rw broken)
@@ -37,8 +37,8 @@ input-field-requires c κs = search rules
 
 answer-request-requires : tie.Need-answer-request-requires
 answer-request-requires c κs =
-    let q = request-asks _ _ _ _ (sym c.before.before.before.before.before.before.request-of.ensures ∙ c.before.before.before.before.op.given.1) in
-    (q.0, ap isInput c.before.before.input-field.ensures ∙ q.1, omega arith, omega arith)
+    let q = request_asks _ _ _ _ (sym c.before.before.before.before.before.before.request-of.ensures ∙ c.before.before.before.before.op.given.1) in
+    (q.0, ap is_input c.before.before.input-field.ensures ∙ q.1, omega arith, omega arith)
 
 same-length-2 : tie.Need-same-length-2
 same-length-2 c = search rules
@@ -47,7 +47,7 @@ same-length-3 : tie.Need-same-length-3
 same-length-3 c = search rules
 
 returns-2 : tie.Need-returns-2
-unfolding answerLine bufferAfter
+unfolding answer_line buffer_after
 returns-2 c =
     let asks = sym c.before.before.before.before.before.before.before.before.before.before.before.request-of.ensures ∙ c.before.before.before.before.before.before.before.before.before.op.given.1 in (
       rw (asks, ← c.before.before.before.before.before.before.before.input-field.ensures) c.before.before.before.before.answer-request.ensures.0,

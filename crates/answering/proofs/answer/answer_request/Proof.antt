@@ -5,12 +5,12 @@ use native.Mathlib.Omega.{arith}
 use lib.ListN.{length, take, drop, length-append}
 use lib.Seq.{length-take-le}
 use borrow.Author.Rules.{rules}
-use Rattle.rules.specs.Contracts.{Allowed}
+use Rattle.rules.specs.Allowed.{Allowed}
 use Rattle.scallopgrid.specs.Returned.{returned}
-use Rattle.lines.proofs.Putting.{prints-fits, prints-taken}
+use Rattle.lines.proofs.Putting.{prints_fits, prints_taken}
 use Rattle.answering.specs.Answers.{answer_of}
 use Rattle.answering.specs.Requests.{input_of}
-use Rattle.answering.proofs.Printed.{answer-shown}
+use Rattle.answering.proofs.Printed.{answer_shown}
 use Rattle.answering.proofs.answer.answer_request.Statement.{statement}
 use Rattle.answering.proofs.answer.answer_request.Tie as tie
 
@@ -21,10 +21,10 @@ buffer-requires : tie.Need-buffer-requires
 buffer-requires c κs = search rules
 
 slice-reshare-prefix-ask : tie.Need-slice-reshare-prefix-ask
-slice-reshare-prefix-ask c = prints-fits _ _ _ _ c.before.before.before.read-input.ensures
+slice-reshare-prefix-ask c = prints_fits _ _ _ _ c.before.before.before.read-input.ensures
 
 slice-aggregate-ask : tie.Need-slice-aggregate-ask
-slice-aggregate-ask c = sym (length-take-le _ _ (prints-fits _ _ _ _ c.before.before.before.before.read-input.ensures))
+slice-aggregate-ask c = sym (length-take-le _ _ (prints_fits _ _ _ _ c.before.before.before.before.read-input.ensures))
 
 array-borrow-prefix-lent : tie.Need-array-borrow-prefix-lent
 array-borrow-prefix-lent c = search rules
@@ -75,11 +75,11 @@ returns c =
     let r : s.args.room ≤ length buf = omega (arith, s.requires.0, c.before.before.before.before.before.before.before.before.before.buffer.ensures) in
     let room-is : length (take s.args.room buf) ≡ s.args.room = length-take-le _ _ r in
     let read = c.before.before.before.before.before.before.before.before.before.before.before.before.read-input.ensures in
-    let input-is = prints-taken _ _ _ _ read in
+    let input-is = prints_taken _ _ _ _ read in
     let A : Allowed (answer_of s.args.op (input_of s.args.hex.now) s.args.allowance s.args.room) (take s.args.room buf) (returned a.result after) = rw (input-is, room-is) at a.ensures.0 in
     let k = a.auto.1.1.1.0 in
     let h : a.result.length ≤ length after = omega (arith, a.ensures.1) in
-    (answer-shown _ _ (drop s.args.room buf) (returned a.result after) A h _ _ _ c.before.before.put-answer.ensures, read.is)
+    (answer_shown _ _ (drop s.args.room buf) (returned a.result after) A h _ _ _ c.before.before.put-answer.ensures, read.is)
 
 pub answer-request-spec : {M : Type 1} → statement M
 answer-request-spec =

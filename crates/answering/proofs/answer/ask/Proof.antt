@@ -1,5 +1,5 @@
 use borrow.Author.Rules.{rules}
-use Rattle.scallopgrid.proofs.Fits.{name-fits, card-fits, canonical-fits, marks-fit, molfile-fits}
+use Rattle.scallopgrid.proofs.Fits.{name-fits, card-fits, canonical-fits, marks-fit, molfile_fits}
 use Rattle.answering.proofs.answer.ask.Statement.{statement}
 use Rattle.answering.proofs.answer.ask.Tie as tie
 
@@ -61,7 +61,7 @@ same-length-5 : tie.Need-same-length-5
 same-length-5 c = search rules
 
 returns-5 : tie.Need-returns-5
-returns-5 c = (rw c.before.before.before.before.enum-told5.given.1 c.before.before.name-of-molfile.ensures, molfile-fits _ _ _ _ c.before.before.name-of-molfile.ensures)
+returns-5 c = (rw c.before.before.before.before.enum-told5.given.1 c.before.before.name-of-molfile.ensures, molfile_fits _ _ _ _ c.before.before.name-of-molfile.ensures)
 
 pub ask-spec : {M : Type 1} → statement M
 ask-spec =

@@ -4,8 +4,8 @@ use native.Mathlib.Omega.{arith}
 use lib.ListN.{length}
 use borrow.Author.Rules.{rules}
 use Rattle.lists.proofs.Upto.{length-each}
-use Rattle.lines.specs.Hex.{hexAt, hexOf}
-use Rattle.lines.proofs.Putting.{puts-more, printed, numbered-most, three-most, dash-most}
+use Rattle.lines.specs.Hex.{hex_at, hex_of}
+use Rattle.lines.proofs.Putting.{puts_more, printed, numbered-most, three_most, dash_most}
 use Rattle.answering.specs.Answers.{shown}
 use Rattle.answering.proofs.answer.put_answer.Statement.{statement}
 use Rattle.answering.proofs.answer.put_answer.Tie as tie
@@ -22,18 +22,18 @@ put-three-requires c κs = search rules
 put-number-requires : tie.Need-put-number-requires
 put-number-requires c κs =
     let a = c.before.before.before.before.before.before.before.before.before.args.a in
-    omega (arith, c.before.before.before.put_three.ensures.long, three-most a.refusal a.place a.leaves)
+    omega (arith, c.before.before.before.put_three.ensures.long, three_most a.refusal a.place a.leaves)
 
 put-bytes-requires : tie.Need-put-bytes-requires
 put-bytes-requires c κs =
     let a = c.before.before.before.before.before.before.before.before.before.before.before.before.before.args.a in
-    omega (arith, c.before.before.before.put-number.ensures.long, c.before.before.before.before.before.before.before.put_three.ensures.long, three-most a.refusal a.place a.leaves, numbered-most (length c.before.before.before.before.before.before.before.before.before.before.before.before.before.args.bytes.now))
+    omega (arith, c.before.before.before.put-number.ensures.long, c.before.before.before.before.before.before.before.put_three.ensures.long, three_most a.refusal a.place a.leaves, numbered-most (length c.before.before.before.before.before.before.before.before.before.before.before.before.before.args.bytes.now))
 
 put-newline-requires : tie.Need-put-newline-requires
 put-newline-requires c κs =
     let a = c.before.before.before.before.before.before.before.before.before.before.before.before.before.before.before.before.before.args.a in
     let b = c.before.before.before.before.before.before.before.before.before.before.before.before.before.before.before.before.before.args.bytes.now in
-    omega (arith, c.before.before.before.put-bytes.ensures.long, c.before.before.before.before.before.before.before.put-number.ensures.long, c.before.before.before.before.before.before.before.before.before.before.before.put_three.ensures.long, three-most a.refusal a.place a.leaves, numbered-most (length b), dash-most (hexOf b), length-each (2 * length b) (hexAt b))
+    omega (arith, c.before.before.before.put-bytes.ensures.long, c.before.before.before.before.before.before.before.put-number.ensures.long, c.before.before.before.before.before.before.before.before.before.before.before.put_three.ensures.long, three_most a.refusal a.place a.leaves, numbered-most (length b), dash_most (hex_of b), length-each (2 * length b) (hex_at b))
 
 same_length : tie.Need-same-length
 same_length c = search rules
@@ -47,10 +47,10 @@ returns c =
     let count = c.before.before.before.before.before.before.before.before.before.before.put-number.ensures in
     let bytes = c.before.before.before.before.before.before.put-bytes.ensures in
     let end = c.before.before.put-newline.ensures in
-    let few : c.before.before.put-newline.result ≤ 2 * length b + 86 = omega (arith, three.long, count.long, bytes.long, end.long, three-most a.refusal a.place a.leaves, numbered-most (length b), dash-most (hexOf b), length-each (2 * length b) (hexAt b)) in
+    let few : c.before.before.put-newline.result ≤ 2 * length b + 86 = omega (arith, three.long, count.long, bytes.long, end.long, three_most a.refusal a.place a.leaves, numbered-most (length b), dash_most (hex_of b), length-each (2 * length b) (hex_at b)) in
     printed _ _ _ _
-    (puts-more _ _ _ _ _ _ _ _ (omega arith) three
-    (puts-more _ _ _ _ _ _ _ _ (omega arith) count (puts-more _ _ _ _ _ _ _ _ (omega arith) bytes end)))
+    (puts_more _ _ _ _ _ _ _ _ (omega arith) three
+    (puts_more _ _ _ _ _ _ _ _ (omega arith) count (puts_more _ _ _ _ _ _ _ _ (omega arith) bytes end)))
 
 pub put-answer-spec : {M : Type 1} → statement M
 put-answer-spec =

@@ -1,9 +1,9 @@
 use mathlib.Core.Path.{sym, ◌∙◌}
 use native.Mathlib.Omega.{arith}
 use borrow.Author.Rules.{rules}
-use Rattle.lines.proofs.Fronted.{prints-none}
+use Rattle.lines.proofs.Fronted.{prints_none}
 use Rattle.answering.specs.Requests.{input_of}
-use Rattle.answering.proofs.Inputs.{input-hex}
+use Rattle.answering.proofs.Inputs.{input_hex}
 use Rattle.answering.proofs.request.read_input.Statement.{statement}
 use Rattle.answering.proofs.request.read_input.Tie as tie
 
@@ -15,12 +15,12 @@ is-word-requires c κs = search rules
 
 returns : tie.Need-returns
 unfolding input_of
-returns c = rw (sym c.before.is_IsWord.ensures ∙ c.if1.true) (prints-none _)
+returns c = rw (sym c.before.is_is_word.ensures ∙ c.if1.true) (prints_none _)
 
 read-bytes-requires : tie.Need-read-bytes-requires
 read-bytes-requires c κs =
     let s = c.before.before.before.before.before.before in
-    let i = input-hex s.args.hex.now s.requires.0 (sym c.before.before.is_IsWord.ensures ∙ c.before.if1.false) in
+    let i = input_hex s.args.hex.now s.requires.0 (sym c.before.before.is_is_word.ensures ∙ c.before.if1.false) in
     (i.0, omega arith)
 
 same_length : tie.Need-same-length
@@ -28,7 +28,7 @@ same_length c = search rules
 
 returns-2 : tie.Need-returns-2
 unfolding input_of
-returns-2 c = rw (sym c.before.before.before.before.before.is_IsWord.ensures ∙ c.before.before.before.before.if1.false) c.before.before.read-bytes.ensures
+returns-2 c = rw (sym c.before.before.before.before.before.is_is_word.ensures ∙ c.before.before.before.before.if1.false) c.before.before.read-bytes.ensures
 
 pub read-input-spec : {M : Type 1} → statement M
 read-input-spec =

@@ -6,8 +6,8 @@ use borrow.Author.Rules.{rules}
 use Rattle.lines.specs.Fields.{field_of, rest_of}
 use Rattle.lines.specs.Numbers.{number_of}
 use Rattle.lines.proofs.Spelling.{number-most}
-use Rattle.answering.specs.Requests.{wordOf, isInput}
-use Rattle.answering.proofs.Requested.{word-broken, allowance-broken, room-broken, input-broken, request-sound}
+use Rattle.answering.specs.Requests.{word_of, is_input}
+use Rattle.answering.proofs.Requested.{word_broken, allowance_broken, room-broken, input_broken, request_sound}
 use Rattle.answering.proofs.request.request_of.Statement.{statement}
 use Rattle.answering.proofs.request.request_of.Tie as tie
 
@@ -25,8 +25,8 @@ enum_told c = search rules
 
 returns : tie.Need-returns
 returns c =
-    let w = c.before.before.word_of.ensures ∙ ap wordOf c.before.before.before.field.ensures in
-    word-broken _ (sym w ∙ c.enum_told.given.1)
+    let w = c.before.before.word_of.ensures ∙ ap word_of c.before.before.before.field.ensures in
+    word_broken _ (sym w ∙ c.enum_told.given.1)
 
 rest-requires : tie.Need-rest-requires
 rest-requires c κs = search rules
@@ -45,9 +45,9 @@ enum-told-2 c = search rules
 
 returns-2 : tie.Need-returns-2
 returns-2 c =
-    let w = c.before.before.before.before.before.before.before.before.word_of.ensures ∙ ap wordOf c.before.before.before.before.before.before.before.before.before.field.ensures in
+    let w = c.before.before.before.before.before.before.before.before.word_of.ensures ∙ ap word_of c.before.before.before.before.before.before.before.before.before.field.ensures in
     let a = c.before.before.number_of_lem.ensures ∙ ap (λ (f : List ℕ). number_of f 65535) (c.before.before.before.field2.ensures ∙ ap field_of c.before.before.before.before.rest.ensures) in
-    allowance-broken _ _ (sym w ∙ c.before.before.before.before.before.before.op.given.1) (sym a ∙ c.enum-told2.given.1)
+    allowance_broken _ _ (sym w ∙ c.before.before.before.before.before.before.op.given.1) (sym a ∙ c.enum-told2.given.1)
 
 rest-requires-2 : tie.Need-rest-requires-2
 rest-requires-2 c κs = search rules
@@ -66,7 +66,7 @@ enum-told-3 c = search rules
 
 returns-3 : tie.Need-returns-3
 returns-3 c =
-    let w = c.before.before.before.before.before.before.before.before.before.before.before.before.before.before.word_of.ensures ∙ ap wordOf c.before.before.before.before.before.before.before.before.before.before.before.before.before.before.before.field.ensures in
+    let w = c.before.before.before.before.before.before.before.before.before.before.before.before.before.before.word_of.ensures ∙ ap word_of c.before.before.before.before.before.before.before.before.before.before.before.before.before.before.before.field.ensures in
     let a = c.before.before.before.before.before.before.before.before.number_of_lem.ensures ∙ ap (λ (f : List ℕ). number_of f 65535) (c.before.before.before.before.before.before.before.before.before.field2.ensures ∙ ap field_of c.before.before.before.before.before.before.before.before.before.before.rest.ensures) in
     let r = c.before.before.number-of2.ensures ∙ ap (λ (f : List ℕ). number_of f 4096) (c.before.before.before.field3.ensures ∙ ap field_of (c.before.before.before.before.rest2.ensures ∙ ap rest_of c.before.before.before.before.before.before.before.before.before.before.rest.ensures)) in
     room-broken _ _ (sym w ∙ c.before.before.before.before.before.before.before.before.before.before.before.before.op.given.1) _ (sym a ∙ c.before.before.before.before.before.before.allowance.given.1) (sym r ∙ c.enum-told3.given.1)
@@ -85,19 +85,19 @@ cast-t16 c = search rules
 
 returns-4 : tie.Need-returns-4
 returns-4 c =
-    let w = c.before.before.before.before.before.before.before.before.before.before.before.before.before.before.before.before.before.before.word_of.ensures ∙ ap wordOf c.before.before.before.before.before.before.before.before.before.before.before.before.before.before.before.before.before.before.before.field.ensures in
+    let w = c.before.before.before.before.before.before.before.before.before.before.before.before.before.before.before.before.before.before.word_of.ensures ∙ ap word_of c.before.before.before.before.before.before.before.before.before.before.before.before.before.before.before.before.before.before.before.field.ensures in
     let a = c.before.before.before.before.before.before.before.before.before.before.before.before.number_of_lem.ensures ∙ ap (λ (f : List ℕ). number_of f 65535) (c.before.before.before.before.before.before.before.before.before.before.before.before.before.field2.ensures ∙ ap field_of c.before.before.before.before.before.before.before.before.before.before.before.before.before.before.rest.ensures) in
     let r = c.before.before.before.before.before.before.number-of2.ensures ∙ ap (λ (f : List ℕ). number_of f 4096) (c.before.before.before.before.before.before.before.field3.ensures ∙ ap field_of (c.before.before.before.before.before.before.before.before.rest2.ensures ∙ ap rest_of c.before.before.before.before.before.before.before.before.before.before.before.before.before.before.rest.ensures)) in
-    let i = c.before.is-input.ensures ∙ ap isInput (c.before.before.rest3.ensures ∙ ap rest_of (c.before.before.before.before.before.before.before.before.rest2.ensures ∙ ap rest_of c.before.before.before.before.before.before.before.before.before.before.before.before.before.before.rest.ensures)) in
-    request-sound _ _ (sym w ∙ c.before.before.before.before.before.before.before.before.before.before.before.before.before.before.before.before.op.given.1) _ (sym a ∙ c.before.before.before.before.before.before.before.before.before.before.allowance.given.1) _ (sym r ∙ c.before.before.before.before.room.given.1) (sym i ∙ c.if1.true)
+    let i = c.before.is-input.ensures ∙ ap is_input (c.before.before.rest3.ensures ∙ ap rest_of (c.before.before.before.before.before.before.before.before.rest2.ensures ∙ ap rest_of c.before.before.before.before.before.before.before.before.before.before.before.before.before.before.rest.ensures)) in
+    request_sound _ _ (sym w ∙ c.before.before.before.before.before.before.before.before.before.before.before.before.before.before.before.before.op.given.1) _ (sym a ∙ c.before.before.before.before.before.before.before.before.before.before.allowance.given.1) _ (sym r ∙ c.before.before.before.before.room.given.1) (sym i ∙ c.if1.true)
 
 returns-5 : tie.Need-returns-5
 returns-5 c =
-    let w = c.before.before.before.before.before.before.before.before.before.before.before.before.before.before.before.before.before.before.word_of.ensures ∙ ap wordOf c.before.before.before.before.before.before.before.before.before.before.before.before.before.before.before.before.before.before.before.field.ensures in
+    let w = c.before.before.before.before.before.before.before.before.before.before.before.before.before.before.before.before.before.before.word_of.ensures ∙ ap word_of c.before.before.before.before.before.before.before.before.before.before.before.before.before.before.before.before.before.before.before.field.ensures in
     let a = c.before.before.before.before.before.before.before.before.before.before.before.before.number_of_lem.ensures ∙ ap (λ (f : List ℕ). number_of f 65535) (c.before.before.before.before.before.before.before.before.before.before.before.before.before.field2.ensures ∙ ap field_of c.before.before.before.before.before.before.before.before.before.before.before.before.before.before.rest.ensures) in
     let r = c.before.before.before.before.before.before.number-of2.ensures ∙ ap (λ (f : List ℕ). number_of f 4096) (c.before.before.before.before.before.before.before.field3.ensures ∙ ap field_of (c.before.before.before.before.before.before.before.before.rest2.ensures ∙ ap rest_of c.before.before.before.before.before.before.before.before.before.before.before.before.before.before.rest.ensures)) in
-    let i = c.before.is-input.ensures ∙ ap isInput (c.before.before.rest3.ensures ∙ ap rest_of (c.before.before.before.before.before.before.before.before.rest2.ensures ∙ ap rest_of c.before.before.before.before.before.before.before.before.before.before.before.before.before.before.rest.ensures)) in
-    input-broken _ _ (sym w ∙ c.before.before.before.before.before.before.before.before.before.before.before.before.before.before.before.before.op.given.1) _ (sym a ∙ c.before.before.before.before.before.before.before.before.before.before.allowance.given.1) _ (sym r ∙ c.before.before.before.before.room.given.1) (sym i ∙ c.if1.false)
+    let i = c.before.is-input.ensures ∙ ap is_input (c.before.before.rest3.ensures ∙ ap rest_of (c.before.before.before.before.before.before.before.before.rest2.ensures ∙ ap rest_of c.before.before.before.before.before.before.before.before.before.before.before.before.before.before.rest.ensures)) in
+    input_broken _ _ (sym w ∙ c.before.before.before.before.before.before.before.before.before.before.before.before.before.before.before.before.op.given.1) _ (sym a ∙ c.before.before.before.before.before.before.before.before.before.before.allowance.given.1) _ (sym r ∙ c.before.before.before.before.room.given.1) (sym i ∙ c.if1.false)
 
 pub request-of-spec : {M : Type 1} → statement M
 request-of-spec =

@@ -1,6 +1,6 @@
 use mathlib.Core.Path.{sym, ◌∙◌}
 use borrow.Author.Rules.{rules}
-use Rattle.answering.specs.Requests.{wordOf}
+use Rattle.answering.specs.Requests.{word_of}
 use Rattle.answering.proofs.request.word_of.Statement.{statement}
 use Rattle.answering.proofs.request.word_of.Tie as tie
 
@@ -11,8 +11,8 @@ is-word-requires : tie.Need-is-word-requires
 is-word-requires c κs = search rules
 
 returns : tie.Need-returns
-unfolding wordOf
-returns c = rw (sym c.before.is_IsWord.ensures ∙ c.if1.true)
+unfolding word_of
+returns c = rw (sym c.before.is_is_word.ensures ∙ c.if1.true)
 
 slice-aggregate-is-word-2 : tie.Need-slice-aggregate-is-word-2
 slice-aggregate-is-word-2 c = search rules
@@ -21,8 +21,8 @@ is-word-requires-2 : tie.Need-is-word-requires-2
 is-word-requires-2 c κs = search rules
 
 returns-2 : tie.Need-returns-2
-unfolding wordOf
-returns-2 c = rw (sym c.before.before.before.before.is_IsWord.ensures ∙ c.before.before.before.if1.false, sym c.before.is-word2.ensures ∙ c.if2.true)
+unfolding word_of
+returns-2 c = rw (sym c.before.before.before.before.is_is_word.ensures ∙ c.before.before.before.if1.false, sym c.before.is-word2.ensures ∙ c.if2.true)
 
 slice-aggregate-is-word-3 : tie.Need-slice-aggregate-is-word-3
 slice-aggregate-is-word-3 c = search rules
@@ -31,8 +31,8 @@ is-word-requires-3 : tie.Need-is-word-requires-3
 is-word-requires-3 c κs = search rules
 
 returns-3 : tie.Need-returns-3
-unfolding wordOf
-returns-3 c = rw (sym c.before.before.before.before.before.before.before.is_IsWord.ensures ∙ c.before.before.before.before.before.before.if1.false, sym c.before.before.before.before.is-word2.ensures ∙ c.before.before.before.if2.false, sym c.before.is-word3.ensures ∙ c.if3.true)
+unfolding word_of
+returns-3 c = rw (sym c.before.before.before.before.before.before.before.is_is_word.ensures ∙ c.before.before.before.before.before.before.if1.false, sym c.before.before.before.before.is-word2.ensures ∙ c.before.before.before.if2.false, sym c.before.is-word3.ensures ∙ c.if3.true)
 
 slice-aggregate-is-word-4 : tie.Need-slice-aggregate-is-word-4
 slice-aggregate-is-word-4 c = search rules
@@ -41,10 +41,10 @@ is-word-requires-4 : tie.Need-is-word-requires-4
 is-word-requires-4 c κs = search rules
 
 returns-4 : tie.Need-returns-4
-unfolding wordOf
+unfolding word_of
 returns-4 c =
     rw (
-      sym c.before.before.before.before.before.before.before.before.before.before.is_IsWord.ensures ∙ c.before.before.before.before.before.before.before.before.before.if1.false,
+      sym c.before.before.before.before.before.before.before.before.before.before.is_is_word.ensures ∙ c.before.before.before.before.before.before.before.before.before.if1.false,
       sym c.before.before.before.before.before.before.before.is-word2.ensures ∙ c.before.before.before.before.before.before.if2.false,
       sym c.before.before.before.before.is-word3.ensures ∙ c.before.before.before.if3.false,
       sym c.before.is-word4.ensures ∙ c.if4.true,
@@ -57,10 +57,10 @@ is-word-requires-5 : tie.Need-is-word-requires-5
 is-word-requires-5 c κs = search rules
 
 returns-5 : tie.Need-returns-5
-unfolding wordOf
+unfolding word_of
 returns-5 c =
     rw (
-      sym c.before.before.before.before.before.before.before.before.before.before.before.before.before.is_IsWord.ensures ∙ c.before.before.before.before.before.before.before.before.before.before.before.before.if1.false,
+      sym c.before.before.before.before.before.before.before.before.before.before.before.before.before.is_is_word.ensures ∙ c.before.before.before.before.before.before.before.before.before.before.before.before.if1.false,
       sym c.before.before.before.before.before.before.before.before.before.before.is-word2.ensures ∙ c.before.before.before.before.before.before.before.before.before.if2.false,
       sym c.before.before.before.before.before.before.before.is-word3.ensures ∙ c.before.before.before.before.before.before.if3.false,
       sym c.before.before.before.before.is-word4.ensures ∙ c.before.before.before.if4.false,
@@ -68,10 +68,10 @@ returns-5 c =
     )
 
 returns-6 : tie.Need-returns-6
-unfolding wordOf
+unfolding word_of
 returns-6 c =
     rw (
-      sym c.before.before.before.before.before.before.before.before.before.before.before.before.before.is_IsWord.ensures ∙ c.before.before.before.before.before.before.before.before.before.before.before.before.if1.false,
+      sym c.before.before.before.before.before.before.before.before.before.before.before.before.before.is_is_word.ensures ∙ c.before.before.before.before.before.before.before.before.before.before.before.before.if1.false,
       sym c.before.before.before.before.before.before.before.before.before.before.is-word2.ensures ∙ c.before.before.before.before.before.before.before.before.before.if2.false,
       sym c.before.before.before.before.before.before.before.is-word3.ensures ∙ c.before.before.before.before.before.before.if3.false,
       sym c.before.before.before.before.is-word4.ensures ∙ c.before.before.before.if4.false,

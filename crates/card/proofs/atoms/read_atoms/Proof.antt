@@ -3,9 +3,9 @@ use mathlib.Core.Path.{refl, sym, ◌∙◌}
 use Prim.Native.Nat.{◌+◌, ◌*◌, ◌-◌, ◌<◌}
 use native.Mathlib.Omega.{arith}
 use lib.ListN.{length}
-use Rattle.molecule.specs.Layout.{atomCount, kind_at, hydrogensAt}
+use Rattle.molecule.specs.Layout.{atom_count, kind_at, hydrogens_at}
 use Rattle.card.proofs.Layouts.{laid}
-use Rattle.card.proofs.Filling.{Filling, filling-start, filling-atom, filling-stop, filling-over, filling-done}
+use Rattle.card.proofs.Filling.{Filling, filling_start, filling_atom, filling_stop, filling_over, filling_done}
 use borrow.Author.Rules.{rules}
 use Rattle.card.proofs.atoms.read_atoms.Statement.{statement}
 use Rattle.card.proofs.atoms.read_atoms.Tie as tie
@@ -16,7 +16,7 @@ invariant-loop card n t₀ total₀ t total = Filling card t total
 abbrev decreases-loop : tie.decreases-loop
 decreases-loop card n t₀ total₀ t total = n - t.n
 
-more : (l : tie.At-loop invariant-loop decreases-loop) → l.loop.t.n < l.before.before.before.args.n → l.loop.t.n < atomCount l.before.before.before.args.card.now
+more : (l : tie.At-loop invariant-loop decreases-loop) → l.loop.t.n < l.before.before.before.args.n → l.loop.t.n < atom_count l.before.before.before.args.card.now
 more l h = omega (arith, l.before.before.before.requires.1)
 
 room : (l : tie.At-loop invariant-loop decreases-loop) → l.loop.t.n < l.before.before.before.args.n → l.loop.t.n < 64
@@ -31,7 +31,7 @@ empty-requires : tie.Need-empty-requires invariant-loop decreases-loop
 empty-requires c κs = search rules
 
 loop-holds : tie.Need-loop-init invariant-loop decreases-loop
-loop-holds c = filling-start c.before.before.args.card.now _ c.empty.ensures.0 c.empty.ensures.1
+loop-holds c = filling_start c.before.before.args.card.now _ c.empty.ensures.0 c.empty.ensures.1
 
 mul-kind-of-number : tie.Need-overflow-mul-kind-of-number invariant-loop decreases-loop
 mul-kind-of-number c = omega (arith, below c.before c.loop-test.true)
@@ -61,11 +61,11 @@ refused-requires : tie.Need-refused-requires invariant-loop decreases-loop
 refused-requires c κs = search rules
 
 returns : tie.Need-returns invariant-loop decreases-loop
-unfolding kind_at hydrogensAt
+unfolding kind_at hydrogens_at
 returns c =
     let l = c.before.before.before.before.before.before.before in
     let s = c.before.before.before.before.before.before.before.before.before.before in
-    filling-stop s.args.card.now l.loop.t l.loop.total _ _ l.loop.invariant (more l c.before.before.before.before.before.before.loop-test.true) c.before.before.before.before.kind-of-number.ensures refl _ _
+    filling_stop s.args.card.now l.loop.t l.loop.total _ _ l.loop.invariant (more l c.before.before.before.before.before.before.loop-test.true) c.before.before.before.before.kind-of-number.ensures refl _ _
     c.before.before.atom-fault.ensures c.before.if1.true c.refused.ensures
 
 element-write-t : tie.Need-element-write-t invariant-loop decreases-loop
@@ -99,11 +99,11 @@ loop-less : tie.Need-loop-smaller invariant-loop decreases-loop
 loop-less c = let h = c.before.before.before.before.before.before.loop-test.true in omega arith
 
 loop-again : tie.Need-loop-preserved invariant-loop decreases-loop
-unfolding kind_at hydrogensAt
+unfolding kind_at hydrogens_at
 loop-again c =
     let l = c.before.before.before.before.before.before.before in
     let s = c.before.before.before.before.before.before.before.before.before.before in
-    filling-atom s.args.card.now l.loop.t l.loop.total _ _ l.loop.invariant (more l c.before.before.before.before.before.before.loop-test.true) c.before.before.before.before.kind-of-number.ensures refl _
+    filling_atom s.args.card.now l.loop.t l.loop.total _ _ l.loop.invariant (more l c.before.before.before.before.before.before.loop-test.true) c.before.before.before.before.kind-of-number.ensures refl _
     c.wide.ensures (room l c.before.before.before.before.before.before.loop-test.true) (sym c.before.before.atom-fault.ensures ∙ c.before.if1.false)
 
 refused-requires-2 : tie.Need-refused-requires-2 invariant-loop decreases-loop
@@ -113,13 +113,13 @@ returns-2 : tie.Need-returns-2 invariant-loop decreases-loop
 returns-2 c =
     let l = c.before.before.before in
     let s = c.before.before.before.before.before.before in
-    filling-over s.args.card.now l.loop.t l.loop.total l.loop.invariant (omega (arith, s.requires.1, c.before.before.loop-test.false)) c.before.if2.true _ c.refused2.ensures
+    filling_over s.args.card.now l.loop.t l.loop.total l.loop.invariant (omega (arith, s.requires.1, c.before.before.loop-test.false)) c.before.if2.true _ c.refused2.ensures
 
 returns-3 : tie.Need-returns-3 invariant-loop decreases-loop
 returns-3 c =
     let l = c.before.before in
     let s = c.before.before.before.before.before in
-    filling-done s.args.card.now l.loop.t l.loop.total l.loop.invariant (omega (arith, s.requires.1, c.before.loop-test.false)) c.if2.false
+    filling_done s.args.card.now l.loop.t l.loop.total l.loop.invariant (omega (arith, s.requires.1, c.before.loop-test.false)) c.if2.false
 
 pub read-atoms-spec : {M : Type 1} → statement M
 read-atoms-spec =

@@ -3,8 +3,8 @@ use mathlib.Core.Path.{sym, ◌∙◌}
 use Prim.Native.Nat.{◌+◌, ◌*◌, ◌-◌, ◌<◌}
 use native.Mathlib.Omega.{arith}
 use lib.ListN.{length}
-use Rattle.molecule.specs.Layout.{bondCount}
-use Rattle.card.proofs.Bonding.{Bonding, bonding-start, bonding-rows, bonding-inside, bonding-roomy, bonding-next, bonding-stop, bonding-done}
+use Rattle.molecule.specs.Layout.{bond_count}
+use Rattle.card.proofs.Bonding.{Bonding, bonding_start, bonding_rows, bonding_inside, bonding_roomy, bonding_next, bonding_stop, bonding_done}
 use borrow.Author.Rules.{rules}
 use Rattle.card.proofs.bonds.read_bonds.Statement.{statement}
 use Rattle.card.proofs.bonds.read_bonds.Tie as tie
@@ -15,14 +15,14 @@ invariant-loop card m n first kinds hydrogens degrees₀ near₀ codes₀ k₀ d
 abbrev decreases-loop : tie.decreases-loop
 decreases-loop card m n first kinds hydrogens degrees₀ near₀ codes₀ k₀ degrees near codes k = m - k
 
-more : (l : tie.At-loop invariant-loop decreases-loop) → l.loop.k < l.before.before.before.before.before.before.before.args.m → l.loop.k < bondCount l.before.before.before.before.before.before.before.args.card.now
+more : (l : tie.At-loop invariant-loop decreases-loop) → l.loop.k < l.before.before.before.before.before.before.before.args.m → l.loop.k < bond_count l.before.before.before.before.before.before.before.args.card.now
 more l h = omega (arith, l.before.before.before.before.before.before.before.requires.1)
 
 -- the three bytes of the bond are there
 below : (l : tie.At-loop invariant-loop decreases-loop) → l.loop.k < l.before.before.before.before.before.before.before.args.m → 2 * l.before.before.before.before.before.before.before.args.bare.n + 6 + 3 * l.loop.k + 2 < length l.before.before.before.before.before.before.before.args.card.now
 below l h =
     let s = l.before.before.before.before.before.before.before in
-    bonding-inside s.args.card.now s.requires.0 s.args.bare.n s.requires.2.size _ l.loop.k l.loop.invariant (more l h)
+    bonding_inside s.args.card.now s.requires.0 s.args.bare.n s.requires.2.size _ l.loop.k l.loop.invariant (more l h)
 
 mul-first : tie.Need-overflow-mul-first invariant-loop decreases-loop
 mul-first c = omega (arith, c.before.requires.2.tidy.atoms)
@@ -31,7 +31,7 @@ add-first : tie.Need-overflow-add-first invariant-loop decreases-loop
 add-first c = omega (arith, c.before.requires.2.tidy.atoms)
 
 loop-holds : tie.Need-loop-init invariant-loop decreases-loop
-loop-holds c = bonding-start c.before.before.before.before.before.before.args.card.now _ c.before.before.before.before.before.before.requires.2
+loop-holds c = bonding_start c.before.before.before.before.before.before.args.card.now _ c.before.before.before.before.before.before.requires.2
 
 mul_at : tie.Need-overflow-mul-at invariant-loop decreases-loop
 mul_at c = omega (arith, below c.before c.loop-test.true, c.before.before.before.before.before.before.before.before.well-formed)
@@ -58,7 +58,7 @@ bond-fault-requires : tie.Need-bond-fault-requires invariant-loop decreases-loop
 bond-fault-requires c κs =
     let l = c.before.before.before.before.before.before.before in
     let s = l.before.before.before.before.before.before.before in
-    bonding-rows s.args.card.now s.requires.0 s.args.bare.n s.requires.2.size _ l.loop.k l.loop.invariant
+    bonding_rows s.args.card.now s.requires.0 s.args.bare.n s.requires.2.size _ l.loop.k l.loop.invariant
 
 refused-requires : tie.Need-refused-requires invariant-loop decreases-loop
 refused-requires c κs = search rules
@@ -67,13 +67,13 @@ returns : tie.Need-returns invariant-loop decreases-loop
 returns c =
     let l = c.before.before.before.before.before.before.before.before.before.before in
     let s = l.before.before.before.before.before.before.before in
-    bonding-stop s.args.card.now s.requires.0 s.args.bare.n s.requires.2.size _ l.loop.k l.loop.invariant (more l c.before.before.before.before.before.before.before.before.before.loop-test.true) _ _ c.before.before.bond-fault.ensures c.before.if1.true c.refused.ensures
+    bonding_stop s.args.card.now s.requires.0 s.args.bare.n s.requires.2.size _ l.loop.k l.loop.invariant (more l c.before.before.before.before.before.before.before.before.before.loop-test.true) _ _ c.before.before.bond-fault.ensures c.before.if1.true c.refused.ensures
 
 put-bond-requires : tie.Need-put-bond-requires invariant-loop decreases-loop
 put-bond-requires c κs =
     let l = c.before.before.before.before.before.before.before.before.before.before.before.before in
     let s = l.before.before.before.before.before.before.before in
-    bonding-roomy s.args.card.now s.requires.0 s.args.bare.n s.requires.2.size _ l.loop.k l.loop.invariant (sym c.before.before.before.before.bond-fault.ensures ∙ c.before.before.before.if1.false)
+    bonding_roomy s.args.card.now s.requires.0 s.args.bare.n s.requires.2.size _ l.loop.k l.loop.invariant (sym c.before.before.before.before.bond-fault.ensures ∙ c.before.before.before.if1.false)
 
 add-k : tie.Need-overflow-add-k invariant-loop decreases-loop
 add-k c = let h = c.before.before.before.before.before.before.before.before.before.before.before.before.loop-test.true in omega arith
@@ -85,13 +85,13 @@ loop-again : tie.Need-loop-preserved invariant-loop decreases-loop
 loop-again c =
     let l = c.before.before.before.before.before.before.before.before.before.before.before.before.before in
     let s = l.before.before.before.before.before.before.before in
-    bonding-next s.args.card.now s.requires.0 s.args.bare.n s.requires.2.size _ l.loop.k l.loop.invariant (more l c.before.before.before.before.before.before.before.before.before.before.before.before.loop-test.true) (sym c.before.before.before.before.before.bond-fault.ensures ∙ c.before.before.before.before.if1.false) _ c.put-bond.ensures
+    bonding_next s.args.card.now s.requires.0 s.args.bare.n s.requires.2.size _ l.loop.k l.loop.invariant (more l c.before.before.before.before.before.before.before.before.before.before.before.before.loop-test.true) (sym c.before.before.before.before.before.bond-fault.ensures ∙ c.before.before.before.before.if1.false) _ c.put-bond.ensures
 
 returns-2 : tie.Need-returns-2 invariant-loop decreases-loop
 returns-2 c =
     let l = c.before in
     let s = l.before.before.before.before.before.before.before in
-    bonding-done s.args.card.now _ l.loop.k l.loop.invariant (omega (arith, s.requires.1, c.loop-test.false))
+    bonding_done s.args.card.now _ l.loop.k l.loop.invariant (omega (arith, s.requires.1, c.loop-test.false))
 
 pub read-bonds-spec : {M : Type 1} → statement M
 read-bonds-spec =

@@ -3,16 +3,16 @@ use mathlib.Core.Path.{◌≡◌, ◌∙◌, ap}
 use Prim.Native.Nat.{ℕ, ◌+◌, ◌%◌}
 use native.Mathlib.Omega.{arith}
 use lib.ListN.{get_or}
-use Rattle.molecule.specs.Layout.{lengthAt, bondsLength}
-use Rattle.card.proofs.Layouts.{broken-fields, no-tag, odd-atoms, no-second-tag, odd-bonds, wrong-length, sound-fields}
+use Rattle.molecule.specs.Layout.{length_at, bonds_length}
+use Rattle.card.proofs.Layouts.{broken-fields, no_tag, odd_atoms, no_second_tag, odd_bonds, wrong_length, sound-fields}
 use borrow.Author.Rules.{rules}
 use Rattle.card.proofs.layout.find_fields.Statement.{statement}
 use Rattle.card.proofs.layout.find_fields.Tie as tie
 
-second : (l : tie.After-length-at2) → l.length-at2.result ≡ bondsLength l.before.before.before.before.before.before.before.before.before.before.args.card.now
+second : (l : tie.After-length-at2) → l.length-at2.result ≡ bonds_length l.before.before.before.before.before.before.before.before.before.before.args.card.now
 second l =
     let s = l.before.before.before.before.before.before.before.before.before.before in
-    l.length-at2.ensures.is ∙ ap (λ (x : ℕ). lengthAt s.args.card.now (x + 4)) l.before.before.before.before.before.length_at.ensures.is
+    l.length-at2.ensures.is ∙ ap (λ (x : ℕ). length_at s.args.card.now (x + 4)) l.before.before.before.before.before.length_at.ensures.is
 
 broken-requires : tie.Need-broken-requires
 broken-requires c κs = search rules
@@ -20,7 +20,7 @@ broken-requires c κs = search rules
 returns : tie.Need-returns
 returns c =
     let s = c.before.before.before in
-    broken-fields s.args.card.now (wrong-length s.args.card.now (λ q. omega (arith, q, c.before.if1.true))) _ c.broken.ensures
+    broken-fields s.args.card.now (wrong_length s.args.card.now (λ q. omega (arith, q, c.before.if1.true))) _ c.broken.ensures
 
 shared-slice-read-if2 : tie.Need-shared-slice-read-if2
 shared-slice-read-if2 c = search rules
@@ -31,7 +31,7 @@ broken-requires-2 c κs = search rules
 returns-2 : tie.Need-returns-2
 returns-2 c =
     let s = c.before.before.before.before.before in
-    broken-fields s.args.card.now (no-tag s.args.card.now c.before.if2.true) _ c.broken2.ensures
+    broken-fields s.args.card.now (no_tag s.args.card.now c.before.if2.true) _ c.broken2.ensures
 
 length-at-requires : tie.Need-length-at-requires
 length-at-requires c κs = search rules
@@ -43,7 +43,7 @@ returns-3 : tie.Need-returns-3
 returns-3 c =
     let s = c.before.before.before.before.before.before.before in
     let e = c.before.before.length_at.ensures.is in
-    broken-fields s.args.card.now (odd-atoms s.args.card.now (λ q. c.before.if3.true (ap (λ (x : ℕ). x % 2) e ∙ q))) _ c.broken3.ensures
+    broken-fields s.args.card.now (odd_atoms s.args.card.now (λ q. c.before.if3.true (ap (λ (x : ℕ). x % 2) e ∙ q))) _ c.broken3.ensures
 
 add-if4 : tie.Need-overflow-add-if4
 add-if4 c = search rules
@@ -55,7 +55,7 @@ returns-4 : tie.Need-returns-4
 returns-4 c =
     let s = c.before.before.before.before.before.before.before.before in
     let e = c.before.before.before.length_at.ensures.is in
-    broken-fields s.args.card.now (wrong-length s.args.card.now (λ q. omega (arith, q, e, c.before.if4.true))) _ c.broken4.ensures
+    broken-fields s.args.card.now (wrong_length s.args.card.now (λ q. omega (arith, q, e, c.before.if4.true))) _ c.broken4.ensures
 
 add-if5 : tie.Need-overflow-add-if5
 add-if5 c = search rules
@@ -70,7 +70,7 @@ returns-5 : tie.Need-returns-5
 returns-5 c =
     let s = c.before.before.before.before.before.before.before.before.before.before in
     let e = c.before.before.before.before.before.length_at.ensures.is in
-    broken-fields s.args.card.now (no-second-tag s.args.card.now (λ q. c.before.if5.true (ap (λ (x : ℕ). get_or s.args.card.now (x + 3) 0) e ∙ q))) _
+    broken-fields s.args.card.now (no_second_tag s.args.card.now (λ q. c.before.if5.true (ap (λ (x : ℕ). get_or s.args.card.now (x + 3) 0) e ∙ q))) _
     c.broken5.ensures
 
 add-length-at : tie.Need-overflow-add-length-at
@@ -86,7 +86,7 @@ returns-6 : tie.Need-returns-6
 returns-6 c =
     let s = c.before.before.before.before.before.before.before.before.before.before.before.before in
     let l = c.before.before in
-    broken-fields s.args.card.now (odd-bonds s.args.card.now (λ q. c.before.if6.true (ap (λ (x : ℕ). x % 3) (second l) ∙ q))) _ c.broken6.ensures
+    broken-fields s.args.card.now (odd_bonds s.args.card.now (λ q. c.before.if6.true (ap (λ (x : ℕ). x % 3) (second l) ∙ q))) _ c.broken6.ensures
 
 add-if7 : tie.Need-overflow-add-if7
 add-if7 c = search rules
@@ -102,7 +102,7 @@ returns-7 c =
     let s = c.before.before.before.before.before.before.before.before.before.before.before.before.before in
     let l = c.before.before.before in
     broken-fields s.args.card.now
-    (wrong-length s.args.card.now (λ q. c.before.if7.true (omega (arith, q, l.before.before.before.before.before.length_at.ensures.is, second l)))) _ c.broken7.ensures
+    (wrong_length s.args.card.now (λ q. c.before.if7.true (omega (arith, q, l.before.before.before.before.before.length_at.ensures.is, second l)))) _ c.broken7.ensures
 
 returns-8 : tie.Need-returns-8
 returns-8 c =

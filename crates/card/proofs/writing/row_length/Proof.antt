@@ -6,8 +6,8 @@ use native.Mathlib.Omega.{arith}
 use lib.Dec.{ltb}
 use lib.ListN.{get_or}
 use Rattle.lists.specs.Upto.{each, sum}
-use Rattle.card.specs.Writing.{rowLength}
-use Rattle.card.proofs.Lengths.{sum-start, sum_more, three-or-none}
+use Rattle.card.specs.Writing.{row_length}
+use Rattle.card.proofs.Lengths.{sum-start, sum_more, three_or_none}
 use borrow.Author.Rules.{rules}
 use Rattle.card.proofs.writing.row_length.Statement.{statement}
 use Rattle.card.proofs.writing.row_length.Tie as tie
@@ -46,7 +46,7 @@ add-bytes : tie.Need-overflow-add-bytes invariant-loop decreases-loop
 add-bytes c =
     let l = c.before.before.before in
     let s = c.before.before.before.before.before.before.before in
-    omega (arith, l.loop.invariant.1, c.piece-length.ensures, three-or-none (ltb s.args.a.0 (get_or s.args.near.now (6 * s.args.a.0 + l.loop.p) 0)), s.requires.few, l.before.wide.ensures)
+    omega (arith, l.loop.invariant.1, c.piece-length.ensures, three_or_none (ltb s.args.a.0 (get_or s.args.near.now (6 * s.args.a.0 + l.loop.p) 0)), s.requires.few, l.before.wide.ensures)
 
 add-p : tie.Need-overflow-add-p invariant-loop decreases-loop
 add-p c = search rules
@@ -59,12 +59,12 @@ loop-again c =
     let l = c.before.before.before in
     let s = c.before.before.before.before.before.before.before in (
       omega arith,
-      omega (arith, l.loop.invariant.1, c.piece-length.ensures, three-or-none (ltb s.args.a.0 (get_or s.args.near.now (6 * s.args.a.0 + l.loop.p) 0))),
+      omega (arith, l.loop.invariant.1, c.piece-length.ensures, three_or_none (ltb s.args.a.0 (get_or s.args.near.now (6 * s.args.a.0 + l.loop.p) 0))),
       omega (arith, l.loop.invariant.2, c.piece-length.ensures, sum_more l.loop.p (λ q. cond (ltb s.args.a.0 (get_or s.args.near.now (6 * s.args.a.0 + q) 0)) 3 0)),
     )
 
 returns : tie.Need-returns invariant-loop decreases-loop
-unfolding rowLength
+unfolding row_length
 returns c =
     let l = c.before in
     let s = c.before.before.before.before.before in

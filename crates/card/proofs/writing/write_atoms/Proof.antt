@@ -6,14 +6,14 @@ use mathlib.Core.Path.{◌≡◌, refl, subst}
 use Prim.Native.Nat.{ℕ, ◌+◌, ◌*◌, ◌-◌, ◌≤◌}
 use native.Mathlib.Omega.{arith}
 use Rattle.lists.specs.Upto.{each}
-use Rattle.card.specs.Writing.{atomPiece, Wrote}
+use Rattle.card.specs.Writing.{atom_piece, Wrote}
 use borrow.Author.Rules.{rules}
 use Rattle.card.proofs.writing.write_atoms.Statement.{statement}
 use Rattle.card.proofs.writing.write_atoms.Tie as tie
 
 abbrev invariant-loop : tie.invariant-loop
 invariant-loop out₀ at n kinds hydrogens a₀ out a =
-    (a ≤ n) × Wrote out₀ at (flatten (each a (atomPiece kinds hydrogens))) out (at + 2 * a) × (length out ≡ length out₀)
+    (a ≤ n) × Wrote out₀ at (flatten (each a (atom_piece kinds hydrogens))) out (at + 2 * a) × (length out ≡ length out₀)
 
 abbrev decreases-loop : tie.decreases-loop
 decreases-loop out₀ at n kinds hydrogens a₀ out a = n - a
@@ -74,7 +74,7 @@ returns c =
     let l = c.before in
     let s = c.before.before.before in
     let e : l.loop.a ≡ s.args.n = omega arith in
-    subst (λ (k : ℕ). Wrote s.args.out.now s.args.at (flatten (each k (atomPiece s.args.kinds.now s.args.hydrogens.now))) l.loop.out (s.args.at + 2 * k)) e
+    subst (λ (k : ℕ). Wrote s.args.out.now s.args.at (flatten (each k (atom_piece s.args.kinds.now s.args.hydrogens.now))) l.loop.out (s.args.at + 2 * k)) e
     l.loop.invariant.1
 
 pub write-atoms-spec : {M : Type 1} → statement M

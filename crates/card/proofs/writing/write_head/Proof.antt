@@ -1,7 +1,7 @@
 -- Three stores one after the other leave the tag and the two bytes of the length.
 use native.Mathlib.Omega.{arith}
 use lib.ListN.{length-set}
-use Rattle.card.proofs.Written.{wrote-head}
+use Rattle.card.proofs.Written.{wrote_head}
 use borrow.Author.Rules.{rules}
 use Rattle.card.proofs.writing.write_head.Statement.{statement}
 use Rattle.card.proofs.writing.write_head.Tie as tie
@@ -34,7 +34,7 @@ same_length : tie.Need-same-length
 same_length c = search rules
 
 returns : tie.Need-returns
-returns c = let s = c.before.before.before in wrote-head s.args.out.now s.args.at s.args.tag _ _ _ _ c.before.narrow.ensures c.narrow2.ensures
+returns c = let s = c.before.before.before in wrote_head s.args.out.now s.args.at s.args.tag _ _ _ _ c.before.narrow.ensures c.narrow2.ensures
 
 pub write-head-spec : {M : Type 1} → statement M
 write-head-spec =

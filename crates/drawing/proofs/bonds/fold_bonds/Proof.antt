@@ -2,8 +2,8 @@
 use mathlib.Core.Path.{refl}
 use Prim.Native.Nat.{◌-◌}
 use native.Mathlib.Omega.{arith}
-use Rattle.drawing.specs.View.{drawingIn}
-use Rattle.drawing.proofs.BondLoop.{loop-start, loop-done, loop-foldable, loop-refused, loop-next}
+use Rattle.drawing.specs.View.{drawing_in}
+use Rattle.drawing.proofs.BondLoop.{loop_start, loop_done, loop_foldable, loop_refused, loop_next}
 use Rattle.drawing.proofs.Folding.{FoldedTo}
 use borrow.Author.Rules.{rules}
 use Rattle.drawing.proofs.bonds.fold_bonds.Statement.{statement}
@@ -11,7 +11,7 @@ use Rattle.drawing.proofs.bonds.fold_bonds.Tie as tie
 
 abbrev invariant-loop : tie.invariant-loop
 invariant-loop kinds one two codes atoms bonds used₀ numbers n own hydrogens₀ degrees₀ near₀ coded₀ k₀ used hydrogens degrees near coded k =
-    FoldedTo (drawingIn kinds one two codes atoms bonds) (record { n = n; kinds = own; hydrogens = hydrogens; degrees = degrees; near = near; codes = coded }) used k
+    FoldedTo (drawing_in kinds one two codes atoms bonds) (record { n = n; kinds = own; hydrogens = hydrogens; degrees = degrees; near = near; codes = coded }) used k
 
 abbrev decreases-loop : tie.decreases-loop
 decreases-loop kinds one two codes atoms bonds used₀ numbers n own hydrogens₀ degrees₀ near₀ coded₀ k₀ used hydrogens degrees near coded k =
@@ -21,7 +21,7 @@ loop-holds : tie.Need-loop-init invariant-loop decreases-loop
 loop-holds c =
     let s = c.before.before.before.before.before.before.before in
     let a = s.args in
-    loop-start a.kinds.now a.one.now a.two.now a.codes.now a.atoms a.bonds s.requires.0 a.bare a.used.now s.requires.2 s.requires.3 s.requires.4
+    loop_start a.kinds.now a.one.now a.two.now a.codes.now a.atoms a.bonds s.requires.0 a.bare a.used.now s.requires.2 s.requires.3 s.requires.4
 
 mul-far : tie.Need-overflow-mul-far invariant-loop decreases-loop
 mul-far c = search rules
@@ -52,7 +52,7 @@ fold-bond-requires c κs =
     let l = c.before.before.before.before.before.before.before.before.before.before.before.before in
     let s = l.before.before.before.before.before.before.before.before in
     let a = s.args in
-    loop-foldable a.kinds.now a.one.now a.two.now a.codes.now a.atoms a.bonds s.requires.0 _ _ l.loop.k l.loop.invariant c.before.before.before.before.before.before.before.before.before.before.before.loop-test.true _ _ _ c.before.before.before.far.ensures c.before.far2.ensures refl a.bare s.requires.2
+    loop_foldable a.kinds.now a.one.now a.two.now a.codes.now a.atoms a.bonds s.requires.0 _ _ l.loop.k l.loop.invariant c.before.before.before.before.before.before.before.before.before.before.before.loop-test.true _ _ _ c.before.before.before.far.ensures c.before.far2.ensures refl a.bare s.requires.2
 
 refused-requires : tie.Need-refused-requires invariant-loop decreases-loop
 refused-requires c κs = search rules
@@ -62,7 +62,7 @@ returns c =
     let l = c.before.before.before.before.before.before.before.before.before.before.before.before.before.before.before in
     let s = l.before.before.before.before.before.before.before.before in
     let a = s.args in
-    loop-refused a.kinds.now a.one.now a.two.now a.codes.now a.atoms a.bonds s.requires.0 _ _ l.loop.k l.loop.invariant c.before.before.before.before.before.before.before.before.before.before.before.before.before.before.loop-test.true _ _ _ c.before.before.before.before.before.before.far.ensures c.before.before.before.before.far2.ensures refl a.bare s.requires.2 _ _ _ _ c.before.before.fold-bond.ensures c.before.if1.true _ c.refused.ensures
+    loop_refused a.kinds.now a.one.now a.two.now a.codes.now a.atoms a.bonds s.requires.0 _ _ l.loop.k l.loop.invariant c.before.before.before.before.before.before.before.before.before.before.before.before.before.before.loop-test.true _ _ _ c.before.before.before.before.before.before.far.ensures c.before.before.before.before.far2.ensures refl a.bare s.requires.2 _ _ _ _ c.before.before.fold-bond.ensures c.before.if1.true _ c.refused.ensures
 
 add-k : tie.Need-overflow-add-k invariant-loop decreases-loop
 add-k c = omega (arith, c.before.before.before.before.before.before.before.before.before.before.before.before.before.loop-test.true, c.before.before.before.before.before.before.before.before.before.before.before.before.before.before.before.before.before.before.before.before.before.before.requires.1)
@@ -75,14 +75,14 @@ loop-again c =
     let l = c.before.before.before.before.before.before.before.before.before.before.before.before.before.before in
     let s = l.before.before.before.before.before.before.before.before in
     let a = s.args in
-    loop-next a.kinds.now a.one.now a.two.now a.codes.now a.atoms a.bonds s.requires.0 _ _ l.loop.k l.loop.invariant c.before.before.before.before.before.before.before.before.before.before.before.before.before.loop-test.true _ _ _ c.before.before.before.before.before.far.ensures c.before.before.before.far2.ensures refl a.bare s.requires.2 _ _ _ _ c.before.fold-bond.ensures c.if1.false
+    loop_next a.kinds.now a.one.now a.two.now a.codes.now a.atoms a.bonds s.requires.0 _ _ l.loop.k l.loop.invariant c.before.before.before.before.before.before.before.before.before.before.before.before.before.loop-test.true _ _ _ c.before.before.before.before.before.far.ensures c.before.before.before.far2.ensures refl a.bare s.requires.2 _ _ _ _ c.before.fold-bond.ensures c.if1.false
 
 returns-2 : tie.Need-returns-2 invariant-loop decreases-loop
 returns-2 c =
     let l = c.before in
     let s = l.before.before.before.before.before.before.before.before in
     let a = s.args in
-    loop-done a.kinds.now a.one.now a.two.now a.codes.now a.atoms a.bonds s.requires.0 _ _ l.loop.k l.loop.invariant c.loop-test.false
+    loop_done a.kinds.now a.one.now a.two.now a.codes.now a.atoms a.bonds s.requires.0 _ _ l.loop.k l.loop.invariant c.loop-test.false
 
 pub fold-bonds-spec : {M : Type 1} → statement M
 fold-bonds-spec =

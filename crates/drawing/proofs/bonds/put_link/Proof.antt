@@ -1,6 +1,6 @@
 -- A bond to an H counts at its other end; another is judged as on a card, and put into both rows.
 use mathlib.Core.Path.{refl, sym, ◌∙◌}
-use Rattle.drawing.proofs.Codes.{byte-tested, byte-same, put_same}
+use Rattle.drawing.proofs.Codes.{byte_tested, byte_same, put_same}
 use borrow.Author.Rules.{rules}
 use Rattle.drawing.proofs.bonds.put_link.Statement.{statement}
 use Rattle.drawing.proofs.bonds.put_link.Tie as tie
@@ -34,21 +34,21 @@ returns-3 c =
     record {
       one = λ e. absurd (c.before.before.before.before.before.before.before.if1.false e);
       two = λ u e. absurd (c.before.before.before.before.before.before.if2.false e);
-      judged = λ u v. c.before.bond-fault.ensures ∙ byte-tested _ _ _ _ _ _ _ _ c.before.before.before.before.before.byte-code.ensures;
+      judged = λ u v. c.before.bond-fault.ensures ∙ byte_tested _ _ _ _ _ _ _ _ c.before.before.before.before.before.byte-code.ensures;
       bond = λ u v e. absurd (c.if3.true e);
     }
 
 put-bond-requires : tie.Need-put-bond-requires
 put-bond-requires c κs =
     let s = c.before.before.before.before.before.before.before.before.before.before.before in
-    s.requires.bond (sym (byte-tested _ _ _ _ _ _ _ _ c.before.before.before.before.before.before.before.before.byte-code.ensures) ∙ sym c.before.before.before.before.bond-fault.ensures ∙ c.before.before.before.if3.false)
+    s.requires.bond (sym (byte_tested _ _ _ _ _ _ _ _ c.before.before.before.before.before.before.before.before.byte-code.ensures) ∙ sym c.before.before.before.before.bond-fault.ensures ∙ c.before.before.before.if3.false)
 
 returns-4 : tie.Need-returns-4
 returns-4 c =
     let s = c.before.before.before.before.before.before.before.before.before.before.before.before in
     let e = sym c.before.before.before.before.before.bond-fault.ensures ∙ c.before.before.before.before.if3.false in
-    let t = byte-tested s.args.n _ _ _ s.args.a.0 s.args.b.0 s.args.code _ c.before.before.before.before.before.before.before.before.before.byte-code.ensures in
-    let k = byte-same s.args.n _ _ _ s.args.a.0 s.args.b.0 s.args.code _ c.before.before.before.before.before.before.before.before.before.byte-code.ensures e in
+    let t = byte_tested s.args.n _ _ _ s.args.a.0 s.args.b.0 s.args.code _ c.before.before.before.before.before.before.before.before.before.byte-code.ensures in
+    let k = byte_same s.args.n _ _ _ s.args.a.0 s.args.b.0 s.args.code _ c.before.before.before.before.before.before.before.before.before.byte-code.ensures e in
     record {
       one = λ z. absurd (c.before.before.before.before.before.before.before.before.before.before.before.if1.false z);
       two = λ u z. absurd (c.before.before.before.before.before.before.before.before.before.before.if2.false z);

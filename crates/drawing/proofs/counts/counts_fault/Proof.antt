@@ -1,6 +1,6 @@
 -- The counts, judged as those of a card.
 use mathlib.Core.Path.{◌∙◌, ap₂}
-use Rattle.drawing.specs.Tests.{countsTested}
+use Rattle.drawing.specs.Tests.{counts_tested}
 use borrow.Author.Rules.{rules}
 use Rattle.drawing.proofs.counts.counts_fault.Statement.{statement}
 use Rattle.drawing.proofs.counts.counts_fault.Tie as tie
@@ -15,7 +15,7 @@ counts-fault-requires : tie.Need-counts-fault-requires
 counts-fault-requires c κs = search rules
 
 returns : tie.Need-returns
-returns c = c.counts-fault.ensures ∙ ap₂ countsTested c.before.before.heavy-atoms.ensures c.before.heavy-bonds.ensures
+returns c = c.counts-fault.ensures ∙ ap₂ counts_tested c.before.before.heavy-atoms.ensures c.before.heavy-bonds.ensures
 
 pub counts-fault-spec : {M : Type 1} → statement M
 counts-fault-spec =

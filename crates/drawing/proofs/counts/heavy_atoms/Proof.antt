@@ -3,14 +3,14 @@ use mathlib.Core.Path.{◌≡◌, ◌∙◌, ap}
 use Prim.Native.Nat.{ℕ, ◌≤◌, ◌<◌, ◌-◌}
 use native.Mathlib.Omega.{arith}
 use lib.ListN.{length, take}
-use Rattle.drawing.specs.Tests.{heavyIn}
-use Rattle.drawing.proofs.Counting.{heavies-next}
+use Rattle.drawing.specs.Tests.{heavy_in}
+use Rattle.drawing.proofs.Counting.{heavies_next}
 use borrow.Author.Rules.{rules}
 use Rattle.drawing.proofs.counts.heavy_atoms.Statement.{statement}
 use Rattle.drawing.proofs.counts.heavy_atoms.Tie as tie
 
 abbrev invariant-loop : tie.invariant-loop
-invariant-loop kinds atoms n₀ p₀ n p = (p ≤ atoms) × (n ≤ p) × (n ≡ heavyIn (take p kinds))
+invariant-loop kinds atoms n₀ p₀ n p = (p ≤ atoms) × (n ≤ p) × (n ≡ heavy_in (take p kinds))
 
 abbrev decreases-loop : tie.decreases-loop
 decreases-loop kinds atoms n₀ p₀ n p = atoms - p
@@ -37,10 +37,10 @@ loop-again : tie.Need-loop-preserved invariant-loop decreases-loop
 loop-again c =
     let l = c.before.before.before in
     let h : l.loop.p < length l.before.args.kinds.now = omega (arith, l.before.requires.long, l.before.requires.few, c.before.before.loop-test.true) in
-    (omega arith, omega (arith, l.loop.invariant.1, c.heavy.ensures.small), omega (arith, l.loop.invariant.2, c.heavy.ensures.is, heavies-next l.before.args.kinds.now l.loop.p h))
+    (omega arith, omega (arith, l.loop.invariant.1, c.heavy.ensures.small), omega (arith, l.loop.invariant.2, c.heavy.ensures.is, heavies_next l.before.args.kinds.now l.loop.p h))
 
 returns : tie.Need-returns invariant-loop decreases-loop
-returns c = let e : c.before.loop.p ≡ c.before.before.args.atoms = omega (arith, c.loop-test.false, c.before.loop.invariant.0) in c.before.loop.invariant.2 ∙ ap (λ (i : ℕ). heavyIn (take i c.before.before.args.kinds.now)) e
+returns c = let e : c.before.loop.p ≡ c.before.before.args.atoms = omega (arith, c.loop-test.false, c.before.loop.invariant.0) in c.before.loop.invariant.2 ∙ ap (λ (i : ℕ). heavy_in (take i c.before.before.args.kinds.now)) e
 
 pub heavy-atoms-spec : {M : Type 1} → statement M
 heavy-atoms-spec =

@@ -6,23 +6,23 @@ use native.Mathlib.Omega.{arith}
 use lib.ListN.{get_or, take}
 use Rattle.lists.specs.Tests.{count}
 use Rattle.lists.proofs.Steps.{each-zero}
-use Rattle.drawing.specs.Tests.{isHIn, heavyBondsIn}
+use Rattle.drawing.specs.Tests.{is_h_in, heavy_bonds_in}
 use Rattle.drawing.proofs.Counting.{bonds-next}
 use borrow.Author.Rules.{rules}
 use Rattle.drawing.proofs.counts.heavy_bonds.Statement.{statement}
 use Rattle.drawing.proofs.counts.heavy_bonds.Tie as tie
 
 abbrev invariant-loop : tie.invariant-loop
-invariant-loop kinds one two atoms bonds n₀ k₀ n k = (k ≤ bonds) × (n ≤ k) × (n ≡ heavyBondsIn (take atoms kinds) one two k)
+invariant-loop kinds one two atoms bonds n₀ k₀ n k = (k ≤ bonds) × (n ≤ k) × (n ≡ heavy_bonds_in (take atoms kinds) one two k)
 
 abbrev decreases-loop : tie.decreases-loop
 decreases-loop kinds one two atoms bonds n₀ k₀ n k = bonds - k
 
-is : (c : tie.After-heavy-bond invariant-loop decreases-loop) → c.heavy-bond.result ≡ cond (not (isHIn (take c.before.before.before.before.before.before.before.args.atoms c.before.before.before.before.before.before.before.args.kinds.now) (get_or c.before.before.before.before.before.before.before.args.one.now c.before.before.before.before.before.before.loop.k 0) || isHIn (take c.before.before.before.before.before.before.before.args.atoms c.before.before.before.before.before.before.before.args.kinds.now) (get_or c.before.before.before.before.before.before.before.args.two.now c.before.before.before.before.before.before.loop.k 0))) 1 0
+is : (c : tie.After-heavy-bond invariant-loop decreases-loop) → c.heavy-bond.result ≡ cond (not (is_h_in (take c.before.before.before.before.before.before.before.args.atoms c.before.before.before.before.before.before.before.args.kinds.now) (get_or c.before.before.before.before.before.before.before.args.one.now c.before.before.before.before.before.before.loop.k 0) || is_h_in (take c.before.before.before.before.before.before.before.args.atoms c.before.before.before.before.before.before.before.args.kinds.now) (get_or c.before.before.before.before.before.before.before.args.two.now c.before.before.before.before.before.before.loop.k 0))) 1 0
 is c =
     let s = c.before.before.before.before.before.before.before in
     c.heavy-bond.ensures.is
-    ∙ ap₂ (λ (i j : ℕ). cond {A = ℕ} (not (isHIn (take s.args.atoms s.args.kinds.now) i || isHIn (take s.args.atoms s.args.kinds.now) j)) 1 0) c.before.before.before.far.ensures c.before.far2.ensures
+    ∙ ap₂ (λ (i j : ℕ). cond {A = ℕ} (not (is_h_in (take s.args.atoms s.args.kinds.now) i || is_h_in (take s.args.atoms s.args.kinds.now) j)) 1 0) c.before.before.before.far.ensures c.before.far2.ensures
 
 loop-holds : tie.Need-loop-init invariant-loop decreases-loop
 loop-holds c = (omega arith, omega arith, sym (ap count (each-zero _)))
@@ -64,7 +64,7 @@ loop-again c =
     (omega arith, omega (arith, l.loop.invariant.1, c.heavy-bond.ensures.small), omega (arith, l.loop.invariant.2, is c, bonds-next (take s.args.atoms s.args.kinds.now) s.args.one.now s.args.two.now l.loop.k))
 
 returns : tie.Need-returns invariant-loop decreases-loop
-returns c = let s = c.before.before in let e : c.before.loop.k ≡ s.args.bonds = omega (arith, c.loop-test.false, c.before.loop.invariant.0) in c.before.loop.invariant.2 ∙ ap (heavyBondsIn (take s.args.atoms s.args.kinds.now) s.args.one.now s.args.two.now) e
+returns c = let s = c.before.before in let e : c.before.loop.k ≡ s.args.bonds = omega (arith, c.loop-test.false, c.before.loop.invariant.0) in c.before.loop.invariant.2 ∙ ap (heavy_bonds_in (take s.args.atoms s.args.kinds.now) s.args.one.now s.args.two.now) e
 
 pub heavy-bonds-spec : {M : Type 1} → statement M
 heavy-bonds-spec =

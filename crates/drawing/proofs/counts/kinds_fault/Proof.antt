@@ -7,8 +7,8 @@ use native.Mathlib.Omega.{arith}
 use lib.Dec.{ltb}
 use lib.ListN.{get_or, take}
 use borrow.Author.Tests.{lt-ltb, le-ltb}
-use Rattle.card.proofs.Faults.{Rest, rest-stop, rest-next, rest_end}
-use Rattle.drawing.specs.Tests.{unknownTested}
+use Rattle.card.proofs.Faults.{Rest, rest_stop, rest_next, rest_end}
+use Rattle.drawing.specs.Tests.{unknown_tested}
 use Rattle.drawing.proofs.Counting.{unknown-start}
 use borrow.Author.Rules.{rules}
 use Rattle.drawing.proofs.counts.kinds_fault.Statement.{statement}
@@ -18,7 +18,7 @@ abbrev unknown : List ℕ → ℕ → ℕ
 unknown kinds q = cond (ltb 24 (get_or kinds q 0)) 3 0
 
 abbrev invariant-loop : tie.invariant-loop
-invariant-loop kinds atoms p₀ p = (p ≤ atoms) × (unknownTested (take atoms kinds) ≡ Rest (unknown kinds) atoms p)
+invariant-loop kinds atoms p₀ p = (p ≤ atoms) × (unknown_tested (take atoms kinds) ≡ Rest (unknown kinds) atoms p)
 
 abbrev decreases-loop : tie.decreases-loop
 decreases-loop kinds atoms p₀ p = atoms - p
@@ -34,7 +34,7 @@ returns c =
     let l = c.before.before.before in
     let s = l.before in
     let f : ltb 24 (get_or s.args.kinds.now l.loop.p 0) ≡ true = lt-ltb 24 _ c.if1.true in
-    sym (l.loop.invariant.1 ∙ rest-stop (unknown s.args.kinds.now) s.args.atoms l.loop.p c.before.before.loop-test.true (λ z. let y = simp f at z in omega arith) ∙ rw f)
+    sym (l.loop.invariant.1 ∙ rest_stop (unknown s.args.kinds.now) s.args.atoms l.loop.p c.before.before.loop-test.true (λ z. let y = simp f at z in omega arith) ∙ rw f)
 
 add-p : tie.Need-overflow-add-p invariant-loop decreases-loop
 add-p c = search rules
@@ -47,7 +47,7 @@ loop-again c =
     let l = c.before.before.before in
     let s = l.before in
     let f : ltb 24 (get_or s.args.kinds.now l.loop.p 0) ≡ false = le-ltb 24 (get_or s.args.kinds.now l.loop.p 0) (omega (arith, c.if1.false)) in
-    (omega (arith, c.before.before.loop-test.true), l.loop.invariant.1 ∙ rest-next (unknown s.args.kinds.now) s.args.atoms l.loop.p c.before.before.loop-test.true (rw f))
+    (omega (arith, c.before.before.loop-test.true), l.loop.invariant.1 ∙ rest_next (unknown s.args.kinds.now) s.args.atoms l.loop.p c.before.before.loop-test.true (rw f))
 
 returns-2 : tie.Need-returns-2 invariant-loop decreases-loop
 returns-2 c = let l = c.before in sym (l.loop.invariant.1 ∙ rest_end (unknown l.before.args.kinds.now) l.before.args.atoms l.loop.p c.loop-test.false)

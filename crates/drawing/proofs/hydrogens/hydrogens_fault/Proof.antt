@@ -9,8 +9,8 @@ use lib.ListN.{get_or}
 use borrow.Author.Tests.{lt-ltb, le-ltb}
 use Rattle.lists.specs.Upto.{each, sum}
 use Rattle.lists.specs.Tests.{some}
-use Rattle.drawing.specs.Tests.{hydrogensTested}
-use Rattle.drawing.proofs.Counting.{none-start, none-next, some-here, sums-start, sums_next}
+use Rattle.drawing.specs.Tests.{hydrogens_tested}
+use Rattle.drawing.proofs.Counting.{none-start, none-next, some-here, sums_start, sums_next}
 use borrow.Author.Rules.{rules}
 use Rattle.drawing.proofs.hydrogens.hydrogens_fault.Statement.{statement}
 use Rattle.drawing.proofs.hydrogens.hydrogens_fault.Tie as tie
@@ -26,11 +26,11 @@ abbrev decreases-loop : tie.decreases-loop
 decreases-loop hydrogens n total₀ a₀ total a = n - a
 
 -- no atom has too many, and whether the total is too high is known
-ended : (hs : List ℕ) (n total : ℕ) (b : Bool) → some (each n (over hs)) ≡ false → total ≡ sum (each n (λ a. get_or hs a 0)) → ltb 128 total ≡ b → cond b 4 0 ≡ hydrogensTested hs n
+ended : (hs : List ℕ) (n total : ℕ) (b : Bool) → some (each n (over hs)) ≡ false → total ≡ sum (each n (λ a. get_or hs a 0)) → ltb 128 total ≡ b → cond b 4 0 ≡ hydrogens_tested hs n
 ended hs n total b e f g = sym (rw (e, ← f, g))
 
 loop-holds : tie.Need-loop-init invariant-loop decreases-loop
-loop-holds c = (omega arith, none-start (over c.args.hydrogens.now), sym (sums-start (λ b. get_or c.args.hydrogens.now b 0)), omega arith)
+loop-holds c = (omega arith, none-start (over c.args.hydrogens.now), sym (sums_start (λ b. get_or c.args.hydrogens.now b 0)), omega arith)
 
 element-copy-out-wide : tie.Need-element-copy-out-wide invariant-loop decreases-loop
 element-copy-out-wide c = search rules

@@ -2,7 +2,7 @@ use Prim.Native.Nat.{◌<◌}
 use native.Mathlib.Omega.{arith}
 use lib.ListN.{length}
 use borrow.Author.Rules.{rules}
-use Rattle.lines.proofs.Parts.{rest-none, rest_some}
+use Rattle.lines.proofs.Parts.{rest_none, rest_some}
 use Rattle.lines.proofs.field.rest.Statement.{statement}
 use Rattle.lines.proofs.field.rest.Tie as tie
 
@@ -21,7 +21,7 @@ part-result-end c = search rules
 returns : tie.Need-returns
 returns c =
     let s = c.before.before.before.before in
-    rest-none s.args.line.now _ c.before.before.find.ensures.0 c.before.if1.true
+    rest_none s.args.line.now _ c.before.before.find.ensures.0 c.before.if1.true
 
 add-from : tie.Need-overflow-add-from
 add-from c = search rules

@@ -9,14 +9,14 @@ use borrow.Author.Tests.{ne_eqb, eq-eqb, le-ltb, lt-ltb}
 use borrow.Author.Rules.{rules}
 use Rattle.lists.specs.Upto.{each}
 use Rattle.lists.specs.Tests.{every}
-use Rattle.lines.specs.Hex.{hexDigitOf}
+use Rattle.lines.specs.Hex.{hex_digit_of}
 use Rattle.lines.proofs.Passing.{passed_none, passed-more, one-fails}
 use Rattle.lines.proofs.HexDigits.{hex-low}
 use Rattle.lines.proofs.hex.is_hex.Statement.{statement}
 use Rattle.lines.proofs.hex.is_hex.Tie as tie
 
 abbrev invariant-loop : tie.invariant-loop
-invariant-loop field n i₀ i = (i ≤ length field) × (every (each i (λ k. ltb (hexDigitOf (get_or field k 0)) 16)) ≡ true)
+invariant-loop field n i₀ i = (i ≤ length field) × (every (each i (λ k. ltb (hex_digit_of (get_or field k 0)) 16)) ≡ true)
 
 abbrev decreases-loop : tie.decreases-loop
 decreases-loop field n i₀ i = length field - i
@@ -37,8 +37,8 @@ returns-2 : tie.Need-returns-2 invariant-loop decreases-loop
 returns-2 c =
     let l = c.before.before.before.before in
     let s = l.before.before.before in
-    let h : 16 ≤ hexDigitOf (get_or s.args.field.now l.loop.i 0) = omega (arith, c.before.hex-digit.ensures) in
-    let f : every (each (length s.args.field.now) (λ k. ltb (hexDigitOf (get_or s.args.field.now k 0)) 16)) ≡ false = one-fails _ _ l.loop.i (omega arith) (le-ltb _ _ h) in
+    let h : 16 ≤ hex_digit_of (get_or s.args.field.now l.loop.i 0) = omega (arith, c.before.hex-digit.ensures) in
+    let f : every (each (length s.args.field.now) (λ k. ltb (hex_digit_of (get_or s.args.field.now k 0)) 16)) ≡ false = one-fails _ _ l.loop.i (omega arith) (le-ltb _ _ h) in
     rw (f, and-false _)
 
 add-i : tie.Need-overflow-add-i invariant-loop decreases-loop
@@ -57,7 +57,7 @@ returns-3 c =
     let l = c.before in
     let s = l.before.before.before in
     let e : l.loop.i ≡ length s.args.field.now = omega arith in
-    let f : every (each (length s.args.field.now) (λ k. ltb (hexDigitOf (get_or s.args.field.now k 0)) 16)) ≡ true = ap (λ (n : ℕ). every (each n (λ k. ltb (hexDigitOf (get_or s.args.field.now k 0)) 16))) (sym e) ∙ l.loop.invariant.1 in
+    let f : every (each (length s.args.field.now) (λ k. ltb (hex_digit_of (get_or s.args.field.now k 0)) 16)) ≡ true = ap (λ (n : ℕ). every (each n (λ k. ltb (hex_digit_of (get_or s.args.field.now k 0)) 16))) (sym e) ∙ l.loop.invariant.1 in
     rw (f, eq-eqb _ _ l.before.if1.false)
 
 pub is-hex-spec : {M : Type 1} → statement M

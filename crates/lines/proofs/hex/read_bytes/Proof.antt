@@ -10,7 +10,7 @@ use Rattle.lists.proofs.Upto.{length-each}
 use Rattle.lines.specs.Hex.{byte_at}
 use Rattle.lines.specs.Written.{fronted}
 use Rattle.lines.proofs.Fronted.{each_none, each_more, each_long}
-use Rattle.lines.proofs.HexDigits.{is_digit}
+use Rattle.lines.proofs.HexDigits.{hex_digit_of-small}
 use Rattle.lines.proofs.hex.read_bytes.Statement.{statement}
 use Rattle.lines.proofs.hex.read_bytes.Tie as tie
 
@@ -36,7 +36,7 @@ mul-out : tie.Need-overflow-mul-out invariant-loop decreases-loop
 mul-out c =
     let l = c.before.before.before in
     let s = l.before.before.before in
-    omega (arith, c.hex-digit.ensures, is_digit s.args.field.now s.requires.0 (2 * l.loop.i) (omega arith))
+    omega (arith, c.hex-digit.ensures, hex_digit_of-small s.args.field.now s.requires.0 (2 * l.loop.i) (omega arith))
 
 mul-hex-digit-2 : tie.Need-overflow-mul-hex-digit-2 invariant-loop decreases-loop
 mul-hex-digit-2 c = search rules
@@ -54,8 +54,8 @@ add-out : tie.Need-overflow-add-out invariant-loop decreases-loop
 add-out c =
     let l = c.before.before.before.before.before in
     let s = l.before.before.before in
-    let h = is_digit s.args.field.now s.requires.0 (2 * l.loop.i) (omega arith) in
-    let k = is_digit s.args.field.now s.requires.0 (2 * l.loop.i + 1) (omega arith) in
+    let h = hex_digit_of-small s.args.field.now s.requires.0 (2 * l.loop.i) (omega arith) in
+    let k = hex_digit_of-small s.args.field.now s.requires.0 (2 * l.loop.i + 1) (omega arith) in
     omega (arith, c.before.before.hex-digit.ensures, c.hex-digit2.ensures)
 
 slice-write-out : tie.Need-slice-write-out invariant-loop decreases-loop

@@ -6,9 +6,9 @@ use lib.ListN.{length, get_or, drop}
 use borrow.Author.Rules.{rules}
 use Rattle.lists.specs.Upto.{each}
 use Rattle.lists.specs.Tests.{every}
-use Rattle.lines.specs.Numbers.{isDigit, worth}
+use Rattle.lines.specs.Numbers.{is_digit, worth}
 use Rattle.lines.proofs.Passing.{passed_none, passed-more}
-use Rattle.lines.proofs.Spelling.{no_digit, a-digit, worth-grows, worth-next, worth-end, number-empty, number-leading, number-broken, number-over, number-whole}
+use Rattle.lines.proofs.Spelling.{no_digit, a_digit, worth-grows, worth-next, worth-end, number-empty, number-leading, number-broken, number-over, number-whole}
 use Rattle.lines.proofs.number.number_of.Statement.{statement}
 use Rattle.lines.proofs.number.number_of.Tie as tie
 
@@ -16,7 +16,7 @@ use Rattle.lines.proofs.number.number_of.Tie as tie
 
 abbrev invariant-loop : tie.invariant-loop
 invariant-loop field most bound value₀ i₀ value i =
-    (i ≤ length field) × (every (each i (λ k. isDigit (get_or field k 0))) ≡ true) × (worth 0 field ≡ worth value (drop i field)) × (value ≤ most)
+    (i ≤ length field) × (every (each i (λ k. is_digit (get_or field k 0))) ≡ true) × (worth 0 field ≡ worth value (drop i field)) × (value ≤ most)
 
 abbrev decreases-loop : tie.decreases-loop
 decreases-loop field most bound value₀ i₀ value i = length field - i
@@ -55,14 +55,14 @@ add-if4 : tie.Need-overflow-add-if4 invariant-loop decreases-loop
 add-if4 c =
     let l = c.before.before.before.before in
     let s = l.before.before.before.before.before.before in
-    let d = a-digit (get_or s.args.field.now l.loop.i 0) c.before.digit.result c.before.digit.ensures c.if3.false in
+    let d = a_digit (get_or s.args.field.now l.loop.i 0) c.before.digit.result c.before.digit.ensures c.if3.false in
     omega (arith, s.ranges.most)
 
 returns-4 : tie.Need-returns-4 invariant-loop decreases-loop
 returns-4 c =
     let l = c.before.before.before.before.before in
     let s = l.before.before.before.before.before.before in
-    let d = a-digit (get_or s.args.field.now l.loop.i 0) c.before.before.digit.result c.before.before.digit.ensures c.before.if3.false in
+    let d = a_digit (get_or s.args.field.now l.loop.i 0) c.before.before.digit.result c.before.before.digit.ensures c.before.if3.false in
     let w = l.loop.invariant.2 ∙ worth-next s.args.field.now l.loop.value l.loop.i c.before.before.digit.result (omega arith) d.1 in
     number-over _ _ (omega (arith, w, worth-grows (drop (l.loop.i + 1) s.args.field.now) (10 * l.loop.value + c.before.before.digit.result), l.before.wide.ensures))
 
@@ -82,7 +82,7 @@ loop-again : tie.Need-loop-preserved invariant-loop decreases-loop
 loop-again c =
     let l = c.before.before.before.before.before in
     let s = l.before.before.before.before.before.before in
-    let d = a-digit (get_or s.args.field.now l.loop.i 0) c.before.before.digit.result c.before.before.digit.ensures c.before.if3.false in (
+    let d = a_digit (get_or s.args.field.now l.loop.i 0) c.before.before.digit.result c.before.before.digit.ensures c.before.if3.false in (
       omega arith,
       passed-more _ l.loop.i l.loop.invariant.1 d.0,
       l.loop.invariant.2 ∙ worth-next s.args.field.now l.loop.value l.loop.i c.before.before.digit.result (omega arith) d.1,
@@ -98,7 +98,7 @@ returns-5 c =
     let s = l.before.before.before.before.before.before in
     let e : l.loop.i ≡ length s.args.field.now = omega arith in
     number-whole _ _ l.loop.value (omega arith) (sym l.before.before.before.leading-zero.ensures ∙ l.before.before.if2.false)
-    (ap (λ (k : ℕ). every (each k (λ j. isDigit (get_or s.args.field.now j 0)))) (sym e) ∙ l.loop.invariant.1)
+    (ap (λ (k : ℕ). every (each k (λ j. is_digit (get_or s.args.field.now j 0)))) (sym e) ∙ l.loop.invariant.1)
     (l.loop.invariant.2 ∙ worth-end s.args.field.now l.loop.value l.loop.i (omega arith)) l.loop.invariant.3
 
 pub number-of-spec : {M : Type 1} → statement M

@@ -1,6 +1,6 @@
 use native.Mathlib.Omega.{arith}
 use borrow.Author.Rules.{rules}
-use Rattle.lines.specs.Numbers.{decimalOf}
+use Rattle.lines.specs.Numbers.{decimal_of}
 use Rattle.lines.proofs.Shown.{digits-most}
 use Rattle.lines.proofs.Putting.{put-part}
 use Rattle.lines.proofs.output.put_digits.Statement.{statement}
@@ -29,7 +29,7 @@ same_length c = search rules
 returns : tie.Need-returns
 returns c =
     let s = c.before.before.before.before.before in
-    put-part (decimalOf s.args.n) s.args.out.now _ s.args.at _ (omega arith) c.before.before.put-decimal.ensures
+    put-part (decimal_of s.args.n) s.args.out.now _ s.args.at _ (omega arith) c.before.before.put-decimal.ensures
 
 pub put-digits-spec : {M : Type 1} → statement M
 put-digits-spec =

@@ -1,7 +1,7 @@
 use mathlib.Core.Path.{sym}
 use native.Mathlib.Omega.{arith}
 use borrow.Author.Rules.{rules}
-use Rattle.lines.proofs.Putting.{puts-as, dash, no-dash}
+use Rattle.lines.proofs.Putting.{puts_as, dash, no_dash}
 use Rattle.lines.proofs.output.put_text.Statement.{statement}
 use Rattle.lines.proofs.output.put_text.Tie as tie
 
@@ -14,7 +14,7 @@ same_length c = search rules
 returns : tie.Need-returns
 returns c =
     let s = c.before.before.before.before.before.before.before in
-    puts-as _ _ _ _ _ _ (sym (dash s.args.text.now c.before.before.before.before.if1.true)) c.before.before.put_byte.ensures
+    puts_as _ _ _ _ _ _ (sym (dash s.args.text.now c.before.before.before.before.if1.true)) c.before.before.put_byte.ensures
 
 put-piece-requires : tie.Need-put-piece-requires
 put-piece-requires c κs = search rules
@@ -25,7 +25,7 @@ same-length-2 c = search rules
 returns-2 : tie.Need-returns-2
 returns-2 c =
     let s = c.before.before.before.before.before.before.before in
-    puts-as _ _ _ _ _ _ (no-dash s.args.text.now (omega (arith, c.before.before.before.before.if1.false))) c.before.before.put-piece.ensures
+    puts_as _ _ _ _ _ _ (no_dash s.args.text.now (omega (arith, c.before.before.before.before.if1.false))) c.before.before.put-piece.ensures
 
 pub put-text-spec : {M : Type 1} → statement M
 put-text-spec =

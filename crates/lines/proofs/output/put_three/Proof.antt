@@ -3,7 +3,7 @@ use Prim.Native.Nat.{◌≤◌}
 use native.Mathlib.Omega.{arith}
 use borrow.Author.Rules.{rules}
 use Rattle.lines.specs.Written.{numbered}
-use Rattle.lines.proofs.Putting.{puts-more, puts-as, numbered-most}
+use Rattle.lines.proofs.Putting.{puts_more, puts_as, numbered-most}
 use Rattle.lines.proofs.output.put_three.Statement.{statement}
 use Rattle.lines.proofs.output.put_three.Tie as tie
 
@@ -30,8 +30,8 @@ returns c =
     let q = c.before.before.before.before.before.before.put-number2.ensures in
     let r = c.before.before.put-number3.ensures in
     let few : c.before.before.put-number3.result ≤ 63 = omega (arith, p.long, q.long, r.long, numbered-most s.args.a, numbered-most s.args.b, numbered-most s.args.c) in
-    puts-as _ _ _ _ _ _ (append_assoc (numbered s.args.a) (numbered s.args.b) (numbered s.args.c))
-    (puts-more _ _ _ _ _ _ _ _ (omega arith) (puts-more _ _ _ _ _ _ _ _ (omega (arith, r.long)) p q) r)
+    puts_as _ _ _ _ _ _ (append_assoc (numbered s.args.a) (numbered s.args.b) (numbered s.args.c))
+    (puts_more _ _ _ _ _ _ _ _ (omega arith) (puts_more _ _ _ _ _ _ _ _ (omega (arith, r.long)) p q) r)
 
 pub put-three-spec : {M : Type 1} → statement M
 put-three-spec =

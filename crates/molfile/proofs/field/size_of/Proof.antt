@@ -14,17 +14,17 @@ last-two-of-requires c κs = omega arith
 
 returns : tie.Need-returns
 returns c =
-    let is_Signed = c.before.before.is_Signed in
-    record { is = c.last-two-of.ensures.is ∙ size-signed _ _ _ (sym is_Signed.ensures ∙ c.before.if1.true); small = c.last-two-of.ensures.small }
+    let is_signed = c.before.before.is_signed in
+    record { is = c.last-two-of.ensures.is ∙ size-signed _ _ _ (sym is_signed.ensures ∙ c.before.if1.true); small = c.last-two-of.ensures.small }
 
 number-of-requires : tie.Need-number-of-requires
 number-of-requires c κs = search rules
 
 returns-2 : tie.Need-returns-2
 returns-2 c =
-    let is_Signed = c.before.before.before.is_Signed in
+    let is_signed = c.before.before.before.is_signed in
     let if1 = c.before.before.if1 in
-    record { is = c.number_of_lem.ensures.is ∙ size-plain _ _ _ c.before.if2.true (sym is_Signed.ensures ∙ if1.false); small = c.number_of_lem.ensures.small }
+    record { is = c.number_of_lem.ensures.is ∙ size-plain _ _ _ c.before.if2.true (sym is_signed.ensures ∙ if1.false); small = c.number_of_lem.ensures.small }
 
 is-signed-requires-2 : tie.Need-is-signed-requires-2
 is-signed-requires-2 c κs = search rules

@@ -1,7 +1,7 @@
 -- One law of FormLaws for each return.
 use mathlib.Core.Path.{sym, ◌∙◌, ap}
-use Rattle.molecule.specs.Kinds.{kindOfSymbol}
-use Rattle.molfile.proofs.FormLaws.{kind-is, trimmed-first, trimmed-last, trimmed-none, three-letters}
+use Rattle.molecule.specs.Kinds.{kind_of_symbol}
+use Rattle.molfile.proofs.FormLaws.{kind-is, trimmed_first, trimmed_last, trimmed_none, three_letters}
 use borrow.Author.Rules.{rules}
 use Rattle.molfile.proofs.forms.kind_in.Statement.{statement}
 use Rattle.molfile.proofs.forms.kind_in.Tie as tie
@@ -24,7 +24,7 @@ returns c =
     let column = c.before.before.before.before.column in
     let column2 = c.before.before.before.column2 in
     let column3 = c.before.before.column3 in
-    c.kind-of-two.ensures ∙ ap kindOfSymbol (trimmed-first _ _ _ c.before.if1.true) ∙ kind-is args.line.now _ _ _ column.ensures
+    c.kind-of-two.ensures ∙ ap kind_of_symbol (trimmed_first _ _ _ c.before.if1.true) ∙ kind-is args.line.now _ _ _ column.ensures
     column2.ensures column3.ensures
 
 kind-of-two-requires-2 : tie.Need-kind-of-two-requires-2
@@ -37,7 +37,7 @@ returns-2 c =
     let column2 = c.before.before.before.before.column2 in
     let column3 = c.before.before.before.column3 in
     let if1 = c.before.before.if1 in
-    c.kind-of-two2.ensures ∙ ap kindOfSymbol (trimmed-last _ _ _ if1.false c.before.if2.true) ∙ kind-is args.line.now _ _ _ column.ensures
+    c.kind-of-two2.ensures ∙ ap kind_of_symbol (trimmed_last _ _ _ if1.false c.before.if2.true) ∙ kind-is args.line.now _ _ _ column.ensures
     column2.ensures column3.ensures
 
 returns-3 : tie.Need-returns-3
@@ -46,7 +46,7 @@ returns-3 c =
     let column = c.before.before.before.before.column in
     let column2 = c.before.before.before.column2 in
     let column3 = c.before.before.column3 in
-    three-letters _ _ _ ∙ ap kindOfSymbol (sym (trimmed-none _ _ _ c.before.if1.false c.if2.false)) ∙ kind-is args.line.now _ _ _ column.ensures
+    three_letters _ _ _ ∙ ap kind_of_symbol (sym (trimmed_none _ _ _ c.before.if1.false c.if2.false)) ∙ kind-is args.line.now _ _ _ column.ensures
     column2.ensures column3.ensures
 
 pub kind-in-spec : {M : Type 1} → statement M

@@ -1,6 +1,6 @@
 -- One law of LineLaws for each return.
 use native.Mathlib.Omega.{arith}
-use Rattle.molfile.proofs.LineLaws.{line-last, line-bare, line-returned}
+use Rattle.molfile.proofs.LineLaws.{line_last, line_bare, line_returned}
 use borrow.Author.Rules.{rules}
 use Rattle.molfile.proofs.line.line_at.Statement.{statement}
 use Rattle.molfile.proofs.line.line_at.Tie as tie
@@ -12,7 +12,7 @@ returns : tie.Need-returns
 returns c =
     let pre = c.before.before.before.requires in
     let args = c.before.before.before.args in
-    line-last args.file.now args.at pre (omega (arith, c.before.line-feed.ensures, c.if1.true))
+    line_last args.file.now args.at pre (omega (arith, c.before.line-feed.ensures, c.if1.true))
 
 add-t6 : tie.Need-overflow-add-t6
 add-t6 c = search rules
@@ -22,7 +22,7 @@ returns-2 c =
     let pre = c.before.before.before.before.requires in
     let args = c.before.before.before.before.args in
     let line-feed = c.before.before.line-feed in
-    line-bare args.file.now args.at pre _ line-feed.ensures c.before.if1.false (λ h e. omega (arith, h, c.if2.true))
+    line_bare args.file.now args.at pre _ line-feed.ensures c.before.if1.false (λ h e. omega (arith, h, c.if2.true))
 
 sub-if3 : tie.Need-overflow-sub-if3
 sub-if3 c = search rules
@@ -43,7 +43,7 @@ returns-3 c =
     let line-feed = c.before.before.before.before.line-feed in
     let if1 = c.before.before.before.if1 in
     let if2 = c.before.before.if2 in
-    line-returned args.file.now args.at pre _ line-feed.ensures if1.false (omega (arith, line-feed.ensures, if2.false)) c.if3.true
+    line_returned args.file.now args.at pre _ line-feed.ensures if1.false (omega (arith, line-feed.ensures, if2.false)) c.if3.true
 
 add-t7 : tie.Need-overflow-add-t7
 add-t7 c = search rules
@@ -54,7 +54,7 @@ returns-4 c =
     let args = c.before.before.before.before.before.before.args in
     let line-feed = c.before.before.before.before.line-feed in
     let if1 = c.before.before.before.if1 in
-    line-bare args.file.now args.at pre _ line-feed.ensures if1.false (λ h e. c.if3.false e)
+    line_bare args.file.now args.at pre _ line-feed.ensures if1.false (λ h e. c.if3.false e)
 
 pub line-at-spec : {M : Type 1} → statement M
 line-at-spec =

@@ -3,14 +3,14 @@ use Prim.Native.Nat.{◌+◌, ◌-◌, ◌≤◌}
 use mathlib.Core.Path.{◌≡◌, refl}
 use lib.ListN.{length, drop}
 use native.Mathlib.Omega.{arith}
-use Rattle.molfile.specs.Cutting.{lineFeed}
-use Rattle.molfile.proofs.LineLaws.{feed-here, feed-on, feed-out}
+use Rattle.molfile.specs.Cutting.{line_feed}
+use Rattle.molfile.proofs.LineLaws.{feed_here, feed_on, feed_out}
 use borrow.Author.Rules.{rules}
 use Rattle.molfile.proofs.line.line_feed.Statement.{statement}
 use Rattle.molfile.proofs.line.line_feed.Tie as tie
 
 abbrev invariant-loop : tie.invariant-loop
-invariant-loop file at n i₀ i = (i ≤ length file) × (i + lineFeed (drop i file) ≡ at + lineFeed (drop at file))
+invariant-loop file at n i₀ i = (i ≤ length file) × (i + line_feed (drop i file) ≡ at + line_feed (drop at file))
 
 abbrev decreases-loop : tie.decreases-loop
 decreases-loop file at n i₀ i = length file - i
@@ -26,7 +26,7 @@ returns c =
     let args = c.before.before.before.before.args in
     let loop = c.before.before.before.loop in
     let loop-test = c.before.before.loop-test in
-    let L = loop in let e = feed-here args.file.now L.i loop-test.true c.if1.true in omega (arith, e, L.invariant.1)
+    let L = loop in let e = feed_here args.file.now L.i loop-test.true c.if1.true in omega (arith, e, L.invariant.1)
 
 add-i : tie.Need-overflow-add-i invariant-loop decreases-loop
 add-i c = search rules
@@ -39,12 +39,12 @@ loop-again c =
     let args = c.before.before.before.before.args in
     let loop = c.before.before.before.loop in
     let loop-test = c.before.before.loop-test in
-    let L = loop in let e = feed-on args.file.now L.i loop-test.true c.if1.false in (omega arith, omega (arith, e, L.invariant.1))
+    let L = loop in let e = feed_on args.file.now L.i loop-test.true c.if1.false in (omega arith, omega (arith, e, L.invariant.1))
 
 returns-2 : tie.Need-returns-2 invariant-loop decreases-loop
 returns-2 c =
     let args = c.before.before.args in
-    let L = c.before.loop in let e = feed-out args.file.now L.i c.loop-test.false in omega (arith, e, L.invariant.1, L.invariant.0)
+    let L = c.before.loop in let e = feed_out args.file.now L.i c.loop-test.false in omega (arith, e, L.invariant.1, L.invariant.0)
 
 pub line-feed-spec : {M : Type 1} → statement M
 line-feed-spec =

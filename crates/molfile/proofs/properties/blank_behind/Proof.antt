@@ -2,14 +2,14 @@
 use Prim.Native.Nat.{◌-◌}
 use mathlib.Core.Path.{◌≡◌, refl, sym, ◌∙◌}
 use lib.ListN.{length, drop}
-use Rattle.ctfile.specs.Fields.{areBlank}
+use Rattle.ctfile.specs.Fields.{are_blank}
 use Rattle.molfile.proofs.PropertyLaws.{blank-out, blank-not, blank-on}
 use borrow.Author.Rules.{rules}
 use Rattle.molfile.proofs.properties.blank_behind.Statement.{statement}
 use Rattle.molfile.proofs.properties.blank_behind.Tie as tie
 
 abbrev invariant-loop : tie.invariant-loop
-invariant-loop line k n i₀ i = areBlank (drop i line) ≡ areBlank (drop k line)
+invariant-loop line k n i₀ i = are_blank (drop i line) ≡ are_blank (drop k line)
 
 abbrev decreases-loop : tie.decreases-loop
 decreases-loop line k n i₀ i = length line - i

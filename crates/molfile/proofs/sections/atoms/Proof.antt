@@ -4,16 +4,16 @@ use mathlib.Core.Path.{◌≡◌, refl, sym, ◌∙◌, ap}
 use lib.ListN.{length, take, length-set}
 use native.Mathlib.Omega.{arith}
 use borrow.Author.Tests.{not-true, not-false}
-use Rattle.ctfile.specs.Forms.{kindIn, isAtomLine}
-use Rattle.molfile.proofs.PassingLaws.{Onward, onward-start, onward-missing, onward-broken, onward-next, onward-end, Kept, kept-start, kept-end}
-use Rattle.molfile.proofs.SectionLaws.{never, kindOn, kinds-next}
+use Rattle.ctfile.specs.Forms.{kind_in, is_atom_line}
+use Rattle.molfile.proofs.PassingLaws.{Onward, onward_start, onward_missing, onward_broken, onward_next, onward_end, Kept, kept-start, kept-end}
+use Rattle.molfile.proofs.SectionLaws.{never, kind_on, kinds-next}
 use borrow.Author.Rules.{rules}
 use Rattle.molfile.proofs.sections.atoms.Statement.{statement}
 use Rattle.molfile.proofs.sections.atoms.Tie as tie
 
 abbrev invariant-loop : tie.invariant-loop
 invariant-loop file from atoms kinds₀ n at₀ k₀ kinds at k =
-    (k ≤ atoms) × Onward isAtomLine file from atoms k at × (length kinds ≡ length kinds₀) × (length kinds₀ ≡ 999 → Kept kindOn file from atoms k at (take k kinds))
+    (k ≤ atoms) × Onward is_atom_line file from atoms k at × (length kinds ≡ length kinds₀) × (length kinds₀ ≡ 999 → Kept kind_on file from atoms k at (take k kinds))
 
 abbrev decreases-loop : tie.decreases-loop
 decreases-loop file from atoms kinds₀ n at₀ k₀ kinds at k = atoms - k
@@ -21,9 +21,9 @@ decreases-loop file from atoms kinds₀ n at₀ k₀ kinds at k = atoms - k
 loop-holds : tie.Need-loop-init invariant-loop decreases-loop
 loop-holds c = (
   omega arith,
-  onward-start isAtomLine c.before.args.file.now _ _,
+  onward_start is_atom_line c.before.args.file.now _ _,
   refl,
-  λ e. kept-start kindOn c.before.args.file.now
+  λ e. kept-start kind_on c.before.args.file.now
       c.before.args.from c.before.args.atoms,
 )
 
@@ -31,7 +31,7 @@ returns : tie.Need-returns invariant-loop decreases-loop
 returns c =
     let args = c.before.before.before.before.args in
     let loop = c.before.before.loop in (
-      onward-missing isAtomLine args.file.now _ _ _ _ loop.invariant.1 c.before.loop-test.true
+      onward_missing is_atom_line args.file.now _ _ _ _ loop.invariant.1 c.before.loop-test.true
           c.if1.true,
       record { kept = loop.invariant.2; are = λ l e. never e },
     )
@@ -58,8 +58,8 @@ returns-2 c =
     let loop-test = c.before.before.before.before.before.loop-test in
     let line_at_lem = c.before.before.before.line_at_lem in
     let e = line_at_lem.ensures in (
-      onward-broken isAtomLine args.file.now _ _ _ _ loop.invariant.1 loop-test.true _ e
-          (sym (c.before.is-atom-line.ensures ∙ ap isAtomLine e.bytes) ∙ not-true _ c.if2.true),
+      onward_broken is_atom_line args.file.now _ _ _ _ loop.invariant.1 loop-test.true _ e
+          (sym (c.before.is-atom-line.ensures ∙ ap is_atom_line e.bytes) ∙ not-true _ c.if2.true),
       record { kept = loop.invariant.2; are = λ l e. never e },
     )
 
@@ -86,11 +86,11 @@ loop-again c =
     let e = line_at_lem.ensures in
     let L = loop in (
       omega (arith, loop-test.true),
-      onward-next isAtomLine args.file.now _ _ _ _ L.invariant.1 loop-test.true _ e
-          (sym (is-atom-line.ensures ∙ ap isAtomLine e.bytes) ∙ not-false _ c.before.if2.false),
+      onward_next is_atom_line args.file.now _ _ _ _ L.invariant.1 loop-test.true _ e
+          (sym (is-atom-line.ensures ∙ ap is_atom_line e.bytes) ∙ not-false _ c.before.if2.false),
       length-set L.kinds L.k _ ∙ L.invariant.2,
       λ l. kinds-next args.file.now args.from args.atoms L.k L.at _ loop-test.true e L.kinds _
-          (omega (arith, l, L.invariant.2, pre, loop-test.true)) (c.kind-in.ensures ∙ ap kindIn e.bytes) (L.invariant.3 l),
+          (omega (arith, l, L.invariant.2, pre, loop-test.true)) (c.kind-in.ensures ∙ ap kind_in e.bytes) (L.invariant.3 l),
     )
 
 returns-3 : tie.Need-returns-3 invariant-loop decreases-loop
@@ -98,10 +98,10 @@ returns-3 c =
     let args = c.before.before.before.args in
     let L = c.before.loop in
     let n : L.k ≡ args.atoms = omega (arith, L.invariant.0, c.loop-test.false) in (
-      onward-end isAtomLine args.file.now _ _ _ _ L.invariant.1 c.loop-test.false,
+      onward_end is_atom_line args.file.now _ _ _ _ L.invariant.1 c.loop-test.false,
       record {
         kept = L.invariant.2;
-        are = λ l e. ap (λ (j : ℕ). take j L.kinds) (sym n) ∙ kept-end kindOn args.file.now args.from args.atoms L.k
+        are = λ l e. ap (λ (j : ℕ). take j L.kinds) (sym n) ∙ kept-end kind_on args.file.now args.from args.atoms L.k
             L.at (take L.k L.kinds) c.loop-test.false (L.invariant.3 l);
       },
     )

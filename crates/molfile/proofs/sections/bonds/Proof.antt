@@ -6,19 +6,19 @@ use native.Mathlib.Omega.{arith}
 use borrow.Author.Tests.{not-true, not-false}
 use Rattle.lists.specs.Upto.{each}
 use Rattle.lists.proofs.Steps.{each-zero}
-use Rattle.ctfile.specs.Forms.{isBondLine}
-use Rattle.drawing.specs.View.{bondOf}
+use Rattle.ctfile.specs.Forms.{is_bond_line}
+use Rattle.drawing.specs.View.{bond_of}
 use Rattle.molfile.specs.Passing.{Longs}
-use Rattle.molfile.proofs.PassingLaws.{Onward, onward-start, onward-missing, onward-broken, onward-next, onward-end, Kept, kept-start, kept-end}
-use Rattle.molfile.proofs.SectionLaws.{never, bondOn, bonds-put}
+use Rattle.molfile.proofs.PassingLaws.{Onward, onward_start, onward_missing, onward_broken, onward_next, onward_end, Kept, kept-start, kept-end}
+use Rattle.molfile.proofs.SectionLaws.{never, bond_on, bonds-put}
 use borrow.Author.Rules.{rules}
 use Rattle.molfile.proofs.sections.bonds.Statement.{statement}
 use Rattle.molfile.proofs.sections.bonds.Tie as tie
 
 abbrev invariant-loop : tie.invariant-loop
 invariant-loop file from bonds one₀ two₀ codes₀ n at₀ k₀ one two codes at k =
-    (k ≤ bonds) × Onward isBondLine file from bonds k at × ((length one ≡ length one₀) × (length two ≡ length two₀) × (length codes ≡ length codes₀))
-    × (Longs one₀ two₀ codes₀ → Kept bondOn file from bonds k at (each k (bondOf one two codes)))
+    (k ≤ bonds) × Onward is_bond_line file from bonds k at × ((length one ≡ length one₀) × (length two ≡ length two₀) × (length codes ≡ length codes₀))
+    × (Longs one₀ two₀ codes₀ → Kept bond_on file from bonds k at (each k (bond_of one two codes)))
 
 abbrev decreases-loop : tie.decreases-loop
 decreases-loop file from bonds one₀ two₀ codes₀ n at₀ k₀ one two codes at k = bonds - k
@@ -26,18 +26,18 @@ decreases-loop file from bonds one₀ two₀ codes₀ n at₀ k₀ one two codes
 loop-holds : tie.Need-loop-init invariant-loop decreases-loop
 loop-holds c = (
   omega arith,
-  onward-start isBondLine c.before.args.file.now _ _,
+  onward_start is_bond_line c.before.args.file.now _ _,
   (refl, refl, refl),
   λ e. rw
-      (each-zero (bondOf c.before.args.one.now c.before.args.two.now c.before.args.codes.now))
-      (kept-start bondOn c.before.args.file.now c.before.args.from c.before.args.bonds),
+      (each-zero (bond_of c.before.args.one.now c.before.args.two.now c.before.args.codes.now))
+      (kept-start bond_on c.before.args.file.now c.before.args.from c.before.args.bonds),
 )
 
 returns : tie.Need-returns invariant-loop decreases-loop
 returns c =
     let args = c.before.before.before.before.args in
     let loop = c.before.before.loop in (
-      onward-missing isBondLine args.file.now _ _ _ _ loop.invariant.1 c.before.loop-test.true
+      onward_missing is_bond_line args.file.now _ _ _ _ loop.invariant.1 c.before.loop-test.true
           c.if1.true,
       record { kept = loop.invariant.2; are = λ l e. never e },
     )
@@ -66,7 +66,7 @@ returns-2 c =
     let e = line_at_lem.ensures in
     let p = c.before.put-bond.ensures in
     let L = loop in (
-      onward-broken isBondLine args.file.now _ _ _ _ L.invariant.1 loop-test.true _ e (sym (p.0 ∙ ap isBondLine e.bytes) ∙ not-true _ c.if2.true),
+      onward_broken is_bond_line args.file.now _ _ _ _ L.invariant.1 loop-test.true _ e (sym (p.0 ∙ ap is_bond_line e.bytes) ∙ not-true _ c.if2.true),
       record {
         kept = (
           ap length p.1 ∙ length-set L.one L.k _ ∙ L.invariant.2.0,
@@ -96,7 +96,7 @@ loop-again c =
     let L = loop in
     let t = loop-test.true in (
       omega (arith, t),
-      onward-next isBondLine args.file.now _ _ _ _ L.invariant.1 t _ e (sym (p.0 ∙ ap isBondLine e.bytes) ∙ not-false _ c.if2.false),
+      onward_next is_bond_line args.file.now _ _ _ _ L.invariant.1 t _ e (sym (p.0 ∙ ap is_bond_line e.bytes) ∙ not-false _ c.if2.false),
       (
         ap length p.1 ∙ length-set L.one L.k _ ∙ L.invariant.2.0,
         ap length p.2 ∙ length-set L.two L.k _ ∙ L.invariant.2.1,
@@ -113,11 +113,11 @@ returns-3 c =
     let args = c.before.before.before.args in
     let L = c.before.loop in
     let n : L.k ≡ args.bonds = omega (arith, L.invariant.0, c.loop-test.false) in (
-      onward-end isBondLine args.file.now _ _ _ _ L.invariant.1 c.loop-test.false,
+      onward_end is_bond_line args.file.now _ _ _ _ L.invariant.1 c.loop-test.false,
       record {
         kept = L.invariant.2;
-        are = λ l e. ap (λ (j : ℕ). each j (bondOf L.one L.two L.codes)) (sym n) ∙ kept-end bondOn args.file.now args.from args.bonds
-            L.k L.at (each L.k (bondOf L.one L.two L.codes)) c.loop-test.false (L.invariant.3 l);
+        are = λ l e. ap (λ (j : ℕ). each j (bond_of L.one L.two L.codes)) (sym n) ∙ kept-end bond_on args.file.now args.from args.bonds
+            L.k L.at (each L.k (bond_of L.one L.two L.codes)) c.loop-test.false (L.invariant.3 l);
       },
     )
 

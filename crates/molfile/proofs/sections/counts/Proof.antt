@@ -2,9 +2,9 @@
 use mathlib.Core.Path.{sym, ◌∙◌, ap, subst}
 use native.Mathlib.Omega.{arith}
 use borrow.Author.Tests.{not-true, not-false}
-use Rattle.ctfile.specs.Forms.{number_at, isCountsLine}
+use Rattle.ctfile.specs.Forms.{number_at, is_counts_line}
 use Rattle.molfile.specs.Passing.{IsCounted}
-use Rattle.molfile.proofs.SectionLaws.{counts-missing, counts-wrong, counts-right}
+use Rattle.molfile.proofs.SectionLaws.{counts_missing, counts_wrong, counts_right}
 use borrow.Author.Rules.{rules}
 use Rattle.molfile.proofs.sections.counts.Statement.{statement}
 use Rattle.molfile.proofs.sections.counts.Tie as tie
@@ -15,7 +15,7 @@ broken-at-requires c κs = search rules
 returns : tie.Need-returns
 returns c =
     let args = c.before.before.before.args in
-    subst (IsCounted args.file.now args.at) (sym c.broken-at.ensures) (counts-missing _ _ c.before.if1.true)
+    subst (IsCounted args.file.now args.at) (sym c.broken-at.ensures) (counts_missing _ _ c.before.if1.true)
 
 line-at-requires : tie.Need-line-at-requires
 line-at-requires c κs = search rules
@@ -41,7 +41,7 @@ returns-2 c =
     let line_at_lem = c.before.before.before.before.line_at_lem in
     let is-counts-line = c.before.before.is-counts-line in
     subst (IsCounted args.file.now args.at) (sym c.broken-at2.ensures)
-    (counts-wrong _ _ _ line_at_lem.ensures (sym (is-counts-line.ensures ∙ ap isCountsLine line_at_lem.ensures.bytes) ∙ not-true _ c.before.if2.true))
+    (counts_wrong _ _ _ line_at_lem.ensures (sym (is-counts-line.ensures ∙ ap is_counts_line line_at_lem.ensures.bytes) ∙ not-true _ c.before.if2.true))
 
 number-at-requires : tie.Need-number-at-requires
 number-at-requires c κs = search rules
@@ -63,7 +63,7 @@ returns-3 c =
     let number-at = c.before.before.before.number-at in
     let wide = c.before.before.wide in
     let e = line_at_lem.ensures in
-    counts-right _ _ _ e _ _ (sym (is-counts-line.ensures ∙ ap isCountsLine e.bytes) ∙ not-false _ if2.false)
+    counts_right _ _ _ e _ _ (sym (is-counts-line.ensures ∙ ap is_counts_line e.bytes) ∙ not-false _ if2.false)
     (wide.ensures ∙ number-at.ensures.is ∙ ap (number_at 0) e.bytes) (c.wide2.ensures ∙ c.before.number-at2.ensures.is ∙ ap (number_at 3) e.bytes)
 
 pub counts-spec : {M : Type 1} → statement M

@@ -4,16 +4,16 @@ use mathlib.Core.Path.{◌≡◌, refl, sym, ◌∙◌, ap}
 use lib.ListN.{length}
 use native.Mathlib.Omega.{arith}
 use borrow.Author.Tests.{not-true, not-false}
-use Rattle.ctfile.specs.Forms.{isPropertyLine, isEndLine}
+use Rattle.ctfile.specs.Forms.{is_property_line, is_end_line}
 use Rattle.ctfile.specs.Filed.{properties}
-use Rattle.molfile.specs.Cutting.{linesAt}
-use Rattle.molfile.proofs.SectionLaws.{end-here, property-wrong, property-next, end-missing}
+use Rattle.molfile.specs.Cutting.{lines_at}
+use Rattle.molfile.proofs.SectionLaws.{end-here, property_wrong, property_next, end-missing}
 use borrow.Author.Rules.{rules}
 use Rattle.molfile.proofs.sections.properties.Statement.{statement}
 use Rattle.molfile.proofs.sections.properties.Tie as tie
 
 abbrev invariant-loop : tie.invariant-loop
-invariant-loop file from atoms n at₀ at = properties (length file) atoms (linesAt file at) ≡ properties (length file) atoms (linesAt file from)
+invariant-loop file from atoms n at₀ at = properties (length file) atoms (lines_at file at) ≡ properties (length file) atoms (lines_at file from)
 
 abbrev decreases-loop : tie.decreases-loop
 decreases-loop file from atoms n at₀ at = length file - at
@@ -41,7 +41,7 @@ returns c =
     let loop = c.before.before.before.before.before.loop in
     let line_at_lem = c.before.before.before.line_at_lem in
     let e = line_at_lem.ensures in
-    sym loop.invariant ∙ end-here _ _ _ e _ (sym (c.before.is-end-line.ensures ∙ ap isEndLine e.bytes) ∙ c.if1.true)
+    sym loop.invariant ∙ end-here _ _ _ e _ (sym (c.before.is-end-line.ensures ∙ ap is_end_line e.bytes) ∙ c.if1.true)
 
 is-property-line-requires : tie.Need-is-property-line-requires invariant-loop decreases-loop
 is-property-line-requires c κs = search rules
@@ -54,8 +54,8 @@ returns-2 c =
     let is-end-line = c.before.before.before.is-end-line in
     let if1 = c.before.before.if1 in
     let e = line_at_lem.ensures in
-    sym loop.invariant ∙ property-wrong _ _ _ e _ (sym (is-end-line.ensures ∙ ap isEndLine e.bytes) ∙ if1.false)
-    (sym (c.before.is-property-line.ensures ∙ ap (isPropertyLine args.atoms) e.bytes) ∙ not-true _ c.if2.true)
+    sym loop.invariant ∙ property_wrong _ _ _ e _ (sym (is-end-line.ensures ∙ ap is_end_line e.bytes) ∙ if1.false)
+    (sym (c.before.is-property-line.ensures ∙ ap (is_property_line args.atoms) e.bytes) ∙ not-true _ c.if2.true)
 
 loop-less : tie.Need-loop-smaller invariant-loop decreases-loop
 loop-less c =
@@ -71,8 +71,8 @@ loop-again c =
     let is-end-line = c.before.before.before.is-end-line in
     let if1 = c.before.before.if1 in
     let e = line_at_lem.ensures in
-    sym (property-next args.file.now _ _ e args.atoms (sym (is-end-line.ensures ∙ ap isEndLine e.bytes) ∙ if1.false)
-    (sym (c.before.is-property-line.ensures ∙ ap (isPropertyLine args.atoms) e.bytes) ∙ not-false _ c.if2.false)) ∙ loop.invariant
+    sym (property_next args.file.now _ _ e args.atoms (sym (is-end-line.ensures ∙ ap is_end_line e.bytes) ∙ if1.false)
+    (sym (c.before.is-property-line.ensures ∙ ap (is_property_line args.atoms) e.bytes) ∙ not-false _ c.if2.false)) ∙ loop.invariant
 
 returns-3 : tie.Need-returns-3 invariant-loop decreases-loop
 returns-3 c =

@@ -5,8 +5,8 @@ use lib.ListN.{length}
 use lib.Seq.{length-take-le}
 use borrow.Author.Rules.{rules}
 use Rattle.scallopgrid.specs.Returned.{returned}
-use Rattle.scallopgrid.proofs.Fits.{molfile-fits}
-use Rattle.molnaming.proofs.Named.{line_refused, line-named}
+use Rattle.scallopgrid.proofs.Fits.{molfile_fits}
+use Rattle.molnaming.proofs.Named.{line_refused, line_named}
 use Rattle.molnaming.proofs.line.mol_line.Statement.{statement}
 use Rattle.molnaming.proofs.line.mol_line.Tie as tie
 
@@ -34,21 +34,21 @@ array-share-prefix-lent : tie.Need-array-share-prefix-lent
 array-share-prefix-lent c =
     let a = c.before.before.before.name-of-molfile in
     let k = a.auto.1.1.0 in
-    omega (arith, molfile-fits _ _ _ _ a.ensures)
+    omega (arith, molfile_fits _ _ _ _ a.ensures)
 
 slice-aggregate-put-name : tie.Need-slice-aggregate-put-name
 slice-aggregate-put-name c =
     let a = c.before.before.before.before.name-of-molfile in
     let k = a.auto.1.1.0 in
-    let h : a.result.length ≤ length a.new.1.1.0 = omega (arith, molfile-fits _ _ _ _ a.ensures) in
+    let h : a.result.length ≤ length a.new.1.1.0 = omega (arith, molfile_fits _ _ _ _ a.ensures) in
     sym (length-take-le _ _ h)
 
 put-name-requires : tie.Need-put-name-requires
 put-name-requires c κs =
     let a = c.before.before.before.before.before.name-of-molfile in
     let k = a.auto.1.1.0 in
-    let h : a.result.length ≤ length a.new.1.1.0 = omega (arith, molfile-fits _ _ _ _ a.ensures) in
-    omega (arith, length-take-le a.result.length a.new.1.1.0 h, molfile-fits _ _ _ _ a.ensures, c.before.before.before.before.before.before.before.name-buffer.ensures)
+    let h : a.result.length ≤ length a.new.1.1.0 = omega (arith, molfile_fits _ _ _ _ a.ensures) in
+    omega (arith, length-take-le a.result.length a.new.1.1.0 h, molfile_fits _ _ _ _ a.ensures, c.before.before.before.before.before.before.before.name-buffer.ensures)
 
 same-length-2 : tie.Need-same-length-2
 same-length-2 c = search rules
@@ -56,7 +56,7 @@ same-length-2 c = search rules
 returns-2 : tie.Need-returns-2
 returns-2 c =
     let a = c.before.before.before.before.before.before.before.before.name-of-molfile in
-    line-named _ _ (returned a.result a.new.1.1.0) (sym c.before.before.before.before.before.before.before.before.before.before.name-buffer.ensures) a.ensures _ _ _ c.before.before.before.before.before.if1.false c.before.before.put-name.ensures
+    line_named _ _ (returned a.result a.new.1.1.0) (sym c.before.before.before.before.before.before.before.before.before.before.name-buffer.ensures) a.ensures _ _ _ c.before.before.before.before.before.if1.false c.before.before.put-name.ensures
 
 pub mol-line-spec : {M : Type 1} → statement M
 mol-line-spec =

@@ -2,8 +2,8 @@ use Prim.Native.Nat.{◌≤◌}
 use native.Mathlib.Omega.{arith}
 use borrow.Author.Rules.{rules}
 use Rattle.lines.proofs.Shown.{digits-most}
-use Rattle.lines.proofs.Putting.{puts-more, put-part, printed, prints-fits}
-use Rattle.molnaming.specs.Lines.{recordLine}
+use Rattle.lines.proofs.Putting.{puts_more, put-part, printed, prints_fits}
+use Rattle.molnaming.specs.Lines.{record_line}
 use Rattle.molnaming.proofs.line.record_line.Statement.{statement}
 use Rattle.molnaming.proofs.line.record_line.Tie as tie
 
@@ -29,22 +29,22 @@ mol-line-requires : tie.Need-mol-line-requires
 mol-line-requires c κs = omega (arith, c.before.before.before.put-piece.ensures.long, c.before.before.before.before.before.before.before.before.put-digits.ensures.long, digits-most 20 c.before.before.before.before.before.before.before.before.before.before.before.before.args.number)
 
 add-result : tie.Need-overflow-add-result
-add-result c = omega (arith, prints-fits _ _ _ _ c.before.before.mol-line.ensures, c.before.before.before.before.before.before.put-piece.ensures.long, c.before.before.before.before.before.before.before.before.before.before.before.put-digits.ensures.long, digits-most 20 c.before.before.before.before.before.before.before.before.before.before.before.before.before.before.before.args.number)
+add-result c = omega (arith, prints_fits _ _ _ _ c.before.before.mol-line.ensures, c.before.before.before.before.before.before.put-piece.ensures.long, c.before.before.before.before.before.before.before.before.before.before.before.put-digits.ensures.long, digits-most 20 c.before.before.before.before.before.before.before.before.before.before.before.before.before.before.before.args.number)
 
 same_length : tie.Need-same-length
 same_length c = search rules
 
 returns : tie.Need-returns
-unfolding recordLine
+unfolding record_line
 returns c =
     let digits = c.before.before.before.before.before.before.before.before.before.before.before.put-digits.ensures in
     let colon = c.before.before.before.before.before.before.put-piece.ensures in
     let line = c.before.before.mol-line.ensures in
     let most = digits-most 20 c.before.before.before.before.before.before.before.before.before.before.before.before.before.before.before.args.number in
-    let fits = prints-fits _ _ _ _ line in
+    let fits = prints_fits _ _ _ _ line in
     printed _ _ _ _
-    (puts-more _ _ _ _ _ _ _ _ (omega (arith, digits.long, colon.long, most, fits)) digits
-    (puts-more _ _ _ _ _ _ _ _ (omega (arith, digits.long, colon.long, most, fits)) colon (put-part _ _ _ _ _ (omega (arith, digits.long, colon.long, most)) line)))
+    (puts_more _ _ _ _ _ _ _ _ (omega (arith, digits.long, colon.long, most, fits)) digits
+    (puts_more _ _ _ _ _ _ _ _ (omega (arith, digits.long, colon.long, most, fits)) colon (put-part _ _ _ _ _ (omega (arith, digits.long, colon.long, most)) line)))
 
 pub record-line-spec : {M : Type 1} → statement M
 record-line-spec =

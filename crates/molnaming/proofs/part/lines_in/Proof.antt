@@ -6,7 +6,7 @@ use lib.Dec.{eqb}
 use lib.ListN.{length, get_or}
 use Rattle.ctfile.specs.Lines.{lines_of}
 use borrow.Author.Rules.{rules}
-use Rattle.molnaming.proofs.Begun.{begun, begun_all, begun-none, begun-next}
+use Rattle.molnaming.proofs.Begun.{begun, begun_all, begun_none, begun_next}
 use Rattle.molnaming.proofs.part.lines_in.Statement.{statement}
 use Rattle.molnaming.proofs.part.lines_in.Tie as tie
 
@@ -49,12 +49,12 @@ loop-again c =
     let file = l.before.before.args.file.now in
     let next : begun file c.is_newline.result (l.loop.i + 1) ≡ begun file (eqb (get_or file l.loop.i 0) 10) (l.loop.i + 1) = ap (λ b. begun file b (l.loop.i + 1)) c.is_newline.ensures in
     let one = c.before.before.one-if.ensures in
-    (omega arith, omega (arith, one, one-most l.loop.begins), omega (arith, one, next, begun-next file l.loop.begins l.loop.i (omega arith), l.loop.invariant.2))
+    (omega arith, omega (arith, one, one-most l.loop.begins), omega (arith, one, next, begun_next file l.loop.begins l.loop.i (omega arith), l.loop.invariant.2))
 
 returns : tie.Need-returns invariant-loop decreases-loop
 returns c =
     let l = c.before in
-    (omega (arith, l.loop.invariant.2, begun-none l.before.before.args.file.now l.loop.begins l.loop.i c.loop-test.false), omega arith)
+    (omega (arith, l.loop.invariant.2, begun_none l.before.before.args.file.now l.loop.begins l.loop.i c.loop-test.false), omega arith)
 
 pub lines-in-spec : {M : Type 1} → statement M
 lines-in-spec =

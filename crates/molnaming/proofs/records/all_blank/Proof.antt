@@ -8,12 +8,12 @@ use borrow.Author.Rules.{rules}
 use Rattle.lists.specs.Upto.{each}
 use Rattle.lists.specs.Tests.{every}
 use Rattle.lines.proofs.Passing.{passed_none, passed-more, one-fails}
-use Rattle.molnaming.specs.Records.{isBlank}
+use Rattle.molnaming.specs.Records.{is_blank}
 use Rattle.molnaming.proofs.records.all_blank.Statement.{statement}
 use Rattle.molnaming.proofs.records.all_blank.Tie as tie
 
 abbrev invariant-loop : tie.invariant-loop
-invariant-loop bytes i₀ i = (i ≤ length bytes) × (every (each i (λ k. isBlank (get_or bytes k 0))) ≡ true)
+invariant-loop bytes i₀ i = (i ≤ length bytes) × (every (each i (λ k. is_blank (get_or bytes k 0))) ≡ true)
 
 abbrev decreases-loop : tie.decreases-loop
 decreases-loop bytes i₀ i = length bytes - i
@@ -30,7 +30,7 @@ is-blank-requires c κs = search rules
 returns : tie.Need-returns invariant-loop decreases-loop
 returns c =
     let l = c.before.before.before.before in
-    sym (one-fails (λ k. isBlank (get_or l.before.before.args.bytes.now k 0)) _ l.loop.i (omega arith) (sym c.before.is-blank.ensures ∙ not-true _ c.if1.true))
+    sym (one-fails (λ k. is_blank (get_or l.before.before.args.bytes.now k 0)) _ l.loop.i (omega arith) (sym c.before.is-blank.ensures ∙ not-true _ c.if1.true))
 
 add-i : tie.Need-overflow-add-i invariant-loop decreases-loop
 add-i c = search rules
@@ -47,7 +47,7 @@ returns-2 : tie.Need-returns-2 invariant-loop decreases-loop
 returns-2 c =
     let l = c.before in
     let e : l.loop.i ≡ length l.before.before.args.bytes.now = omega arith in
-    sym (ap (λ (n : ℕ). every (each n (λ k. isBlank (get_or l.before.before.args.bytes.now k 0)))) (sym e) ∙ l.loop.invariant.1)
+    sym (ap (λ (n : ℕ). every (each n (λ k. is_blank (get_or l.before.before.args.bytes.now k 0)))) (sym e) ∙ l.loop.invariant.1)
 
 pub all-blank-spec : {M : Type 1} → statement M
 all-blank-spec =

@@ -2,7 +2,7 @@ use mathlib.Core.Path.{◌∙◌, sym, ap}
 use native.Mathlib.Omega.{arith}
 use borrow.Author.Tests.{not-true, not-false}
 use borrow.Author.Rules.{rules}
-use Rattle.molnaming.specs.Records.{withLine}
+use Rattle.molnaming.specs.Records.{with_line}
 use Rattle.molnaming.proofs.Held.{held-enough, held-end, held-newline}
 use Rattle.molnaming.proofs.records.hold.Statement.{statement}
 use Rattle.molnaming.proofs.records.hold.Tie as tie
@@ -15,7 +15,7 @@ returns c =
 returns-2 : tie.Need-returns-2
 returns-2 c =
     let s = c.before.before in
-    (held-end s.args.file.now s.args.end (omega arith) c.before.if1.false ∙ ap (withLine s.args.file.now s.args.end) (sym (not-true _ c.if2.true)), omega arith)
+    (held-end s.args.file.now s.args.end (omega arith) c.before.if1.false ∙ ap (with_line s.args.file.now s.args.end) (sym (not-true _ c.if2.true)), omega arith)
 
 slice-write-file : tie.Need-slice-write-file
 slice-write-file c = search rules
@@ -29,7 +29,7 @@ same_length c = search rules
 returns-3 : tie.Need-returns-3
 returns-3 c =
     let s = c.before.before in
-    (held-newline s.args.file.now s.args.end (omega arith) c.before.if1.false (omega arith) ∙ ap (withLine s.args.file.now s.args.end) (sym (not-false _ c.if2.false)), omega arith)
+    (held-newline s.args.file.now s.args.end (omega arith) c.before.if1.false (omega arith) ∙ ap (with_line s.args.file.now s.args.end) (sym (not-false _ c.if2.false)), omega arith)
 
 pub hold-spec : {M : Type 1} → statement M
 hold-spec =

@@ -1,8 +1,8 @@
 use mathlib.Core.Path.{ap, ◌∙◌}
 use borrow.Author.Rules.{rules}
-use Rattle.lines.specs.Fields.{sameBytes}
+use Rattle.lines.specs.Fields.{same_bytes}
 use Rattle.lists.specs.Quoted as quoted
-use Rattle.molnaming.specs.Records.{isParting}
+use Rattle.molnaming.specs.Records.{is_parting}
 use Rattle.molnaming.proofs.records.is_parting.Statement.{statement}
 use Rattle.molnaming.proofs.records.is_parting.Tie as tie
 
@@ -16,8 +16,8 @@ is-word-requires : tie.Need-is-word-requires
 is-word-requires c κs = search rules
 
 returns : tie.Need-returns
-unfolding isParting
-returns c = c.is_IsWord.ensures ∙ ap (λ l. sameBytes l (quoted.bytes_of "$$$$")) c.before.before.front.ensures
+unfolding is_parting
+returns c = c.is_is_word.ensures ∙ ap (λ l. same_bytes l (quoted.bytes_of "$$$$")) c.before.before.front.ensures
 
 pub is-parting-spec : {M : Type 1} → statement M
 is-parting-spec =

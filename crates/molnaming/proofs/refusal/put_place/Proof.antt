@@ -5,15 +5,15 @@ use lib.ListN.{length}
 use borrow.Author.Rules.{rules}
 use Rattle.ctfile.specs.Lines.{lines_of}
 use Rattle.lines.proofs.Shown.{digits-most}
-use Rattle.lines.proofs.Putting.{puts-more, puts-as}
-use Rattle.molnaming.proofs.Placed.{line-is, placed, not-placed, puts_none}
+use Rattle.lines.proofs.Putting.{puts_more, puts_as}
+use Rattle.molnaming.proofs.Placed.{line_is, placed, not_placed, puts_none}
 use Rattle.molnaming.proofs.refusal.put_place.Statement.{statement}
 use Rattle.molnaming.proofs.refusal.put_place.Tie as tie
 
 returns : tie.Need-returns
 returns c =
     let s = c.before.before.before in
-    puts-as _ _ _ _ _ _ (not-placed s.args.file.now _ s.args.place c.if1.true) (puts_none _ _)
+    puts_as _ _ _ _ _ _ (not_placed s.args.file.now _ s.args.place c.if1.true) (puts_none _ _)
 
 front-requires : tie.Need-front-requires
 front-requires c κs = search rules
@@ -57,10 +57,10 @@ returns-2 c =
     let next = c.before.before.before.before.before.before.put-piece2.ensures in
     let end = c.before.before.put-digits2.ensures in
     let lines = c.before.before.before.before.before.before.before.before.before.before.before.before.before.before.before.before.before.before.lines-in in
-    let line = line-is s.args.file.now s.args.place lines.result (lines.ensures.0 ∙ ap (λ l. length (lines_of l)) c.before.before.before.before.before.before.before.before.before.before.before.before.before.before.before.before.before.before.before.front.ensures) in
+    let line = line_is s.args.file.now s.args.place lines.result (lines.ensures.0 ∙ ap (λ l. length (lines_of l)) c.before.before.before.before.before.before.before.before.before.before.before.before.before.before.before.before.before.before.before.front.ensures) in
     let few : c.before.before.put-digits2.result ≤ s.args.at + 56 = omega (arith, byte.long, first.long, next.long, end.long, digits-most 20 s.args.place, digits-most 20 (1 + lines.result)) in
-    puts-as _ _ _ _ _ _ (placed s.args.file.now _ s.args.place _ c.before.before.before.before.before.before.before.before.before.before.before.before.before.before.before.before.before.before.before.before.if1.false line)
-    (puts-more _ _ _ _ _ _ _ _ (omega arith) byte (puts-more _ _ _ _ _ _ _ _ (omega arith) first (puts-more _ _ _ _ _ _ _ _ (omega arith) next end)))
+    puts_as _ _ _ _ _ _ (placed s.args.file.now _ s.args.place _ c.before.before.before.before.before.before.before.before.before.before.before.before.before.before.before.before.before.before.before.before.if1.false line)
+    (puts_more _ _ _ _ _ _ _ _ (omega arith) byte (puts_more _ _ _ _ _ _ _ _ (omega arith) first (puts_more _ _ _ _ _ _ _ _ (omega arith) next end)))
 
 pub put-place-spec : {M : Type 1} → statement M
 put-place-spec =

@@ -1,8 +1,8 @@
 use mathlib.Core.Path.{ap, sym}
 use borrow.Author.Rules.{rules}
-use Rattle.lines.proofs.Putting.{puts-as}
+use Rattle.lines.proofs.Putting.{puts_as}
 use Rattle.molnaming.specs.Lines.{words_of}
-use Rattle.molnaming.proofs.Worded.{other-words}
+use Rattle.molnaming.proofs.Worded.{other_words}
 use Rattle.molnaming.proofs.refusal.put_words.Statement.{statement}
 use Rattle.molnaming.proofs.refusal.put_words.Tie as tie
 
@@ -77,70 +77,70 @@ same_length c = search rules
 
 returns : tie.Need-returns
 unfolding words_of
-returns c = puts-as _ _ _ _ _ _ (ap words_of (sym c.before.before.before.before.before.match.keys1)) c.before.before.put-piece.ensures
+returns c = puts_as _ _ _ _ _ _ (ap words_of (sym c.before.before.before.before.before.match.keys1)) c.before.before.put-piece.ensures
 
 same-length-2 : tie.Need-same-length-2
 same-length-2 c = search rules
 
 returns-2 : tie.Need-returns-2
 unfolding words_of
-returns-2 c = puts-as _ _ _ _ _ _ (ap words_of (sym c.before.before.before.before.before.match.keys2)) c.before.before.put-piece2.ensures
+returns-2 c = puts_as _ _ _ _ _ _ (ap words_of (sym c.before.before.before.before.before.match.keys2)) c.before.before.put-piece2.ensures
 
 same-length-3 : tie.Need-same-length-3
 same-length-3 c = search rules
 
 returns-3 : tie.Need-returns-3
 unfolding words_of
-returns-3 c = puts-as _ _ _ _ _ _ (ap words_of (sym c.before.before.before.before.before.match.keys3)) c.before.before.put-piece3.ensures
+returns-3 c = puts_as _ _ _ _ _ _ (ap words_of (sym c.before.before.before.before.before.match.keys3)) c.before.before.put-piece3.ensures
 
 same-length-4 : tie.Need-same-length-4
 same-length-4 c = search rules
 
 returns-4 : tie.Need-returns-4
 unfolding words_of
-returns-4 c = puts-as _ _ _ _ _ _ (ap words_of (sym c.before.before.before.before.before.match.keys4)) c.before.before.put-piece4.ensures
+returns-4 c = puts_as _ _ _ _ _ _ (ap words_of (sym c.before.before.before.before.before.match.keys4)) c.before.before.put-piece4.ensures
 
 same-length-5 : tie.Need-same-length-5
 same-length-5 c = search rules
 
 returns-5 : tie.Need-returns-5
 unfolding words_of
-returns-5 c = puts-as _ _ _ _ _ _ (ap words_of (sym c.before.before.before.before.before.match.keys5)) c.before.before.put-piece5.ensures
+returns-5 c = puts_as _ _ _ _ _ _ (ap words_of (sym c.before.before.before.before.before.match.keys5)) c.before.before.put-piece5.ensures
 
 same-length-6 : tie.Need-same-length-6
 same-length-6 c = search rules
 
 returns-6 : tie.Need-returns-6
 unfolding words_of
-returns-6 c = puts-as _ _ _ _ _ _ (ap words_of (sym c.before.before.before.before.before.match.keys6)) c.before.before.put-piece6.ensures
+returns-6 c = puts_as _ _ _ _ _ _ (ap words_of (sym c.before.before.before.before.before.match.keys6)) c.before.before.put-piece6.ensures
 
 same-length-7 : tie.Need-same-length-7
 same-length-7 c = search rules
 
 returns-7 : tie.Need-returns-7
 unfolding words_of
-returns-7 c = puts-as _ _ _ _ _ _ (ap words_of (sym c.before.before.before.before.before.match.keys7)) c.before.before.put-piece7.ensures
+returns-7 c = puts_as _ _ _ _ _ _ (ap words_of (sym c.before.before.before.before.before.match.keys7)) c.before.before.put-piece7.ensures
 
 same-length-8 : tie.Need-same-length-8
 same-length-8 c = search rules
 
 returns-8 : tie.Need-returns-8
 unfolding words_of
-returns-8 c = puts-as _ _ _ _ _ _ (ap words_of (sym c.before.before.before.before.before.match.keys8)) c.before.before.put-piece8.ensures
+returns-8 c = puts_as _ _ _ _ _ _ (ap words_of (sym c.before.before.before.before.before.match.keys8)) c.before.before.put-piece8.ensures
 
 same-length-9 : tie.Need-same-length-9
 same-length-9 c = search rules
 
 returns-9 : tie.Need-returns-9
 unfolding words_of
-returns-9 c = puts-as _ _ _ _ _ _ (ap words_of (sym c.before.before.before.before.before.match.keys9)) c.before.before.put-piece9.ensures
+returns-9 c = puts_as _ _ _ _ _ _ (ap words_of (sym c.before.before.before.before.before.match.keys9)) c.before.before.put-piece9.ensures
 
 same-length-10 : tie.Need-same-length-10
 same-length-10 c = search rules
 
 returns-10 : tie.Need-returns-10
 unfolding words_of
-returns-10 c = puts-as _ _ _ _ _ _ (ap words_of (sym c.before.before.before.before.before.match.keys10)) c.before.before.put-piece10.ensures
+returns-10 c = puts_as _ _ _ _ _ _ (ap words_of (sym c.before.before.before.before.before.match.keys10)) c.before.before.put-piece10.ensures
 
 same-length-11 : tie.Need-same-length-11
 same-length-11 c = search rules
@@ -148,7 +148,7 @@ same-length-11 c = search rules
 returns-11 : tie.Need-returns-11
 returns-11 c =
     let n = c.before.before.before.before.before.match.rest in
-    puts-as _ _ _ _ _ _ (other-words _ n.0.0.0.0.0.0.0.0.0.1 n.0.0.0.0.0.0.0.0.1 n.0.0.0.0.0.0.0.1 n.0.0.0.0.0.0.1 n.0.0.0.0.0.1 n.0.0.0.0.1 n.0.0.0.1 n.0.0.1 n.0.1 n.1) c.before.before.put-piece11.ensures
+    puts_as _ _ _ _ _ _ (other_words _ n.0.0.0.0.0.0.0.0.0.1 n.0.0.0.0.0.0.0.0.1 n.0.0.0.0.0.0.0.1 n.0.0.0.0.0.0.1 n.0.0.0.0.0.1 n.0.0.0.0.1 n.0.0.0.1 n.0.0.1 n.0.1 n.1) c.before.before.put-piece11.ensures
 
 pub put-words-spec : {M : Type 1} → statement M
 put-words-spec =

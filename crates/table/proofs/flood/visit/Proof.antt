@@ -3,10 +3,10 @@ use mathlib.Core.Path.{refl, sym, ◌∙◌, ap, subst, ◌≡◌}
 use Prim.Native.Nat.{◌+◌, ◌<◌, ◌-◌, ◌≤◌}
 use lib.ListN.{length, get_or, drop_of_length-le, drop}
 use Rattle.table.proofs.RowLaws.{row-long}
-use Rattle.table.proofs.FloodLaws.{see-counted, seeAll-next}
+use Rattle.table.proofs.FloodLaws.{see-counted, see_all-next}
 use native.Mathlib.Omega.{arith}
 use Rattle.table.specs.Arrays.{row_in}
-use Rattle.table.specs.Flood.{Flood, Counted, see, seeAll}
+use Rattle.table.specs.Flood.{Flood, Counted, see, see_all}
 use borrow.Author.Rules.{rules}
 use Rattle.table.proofs.flood.visit.Statement.{statement}
 use Rattle.table.proofs.flood.visit.Tie as tie
@@ -14,7 +14,7 @@ use Rattle.table.proofs.flood.visit.Tie as tie
 abbrev invariant-loop : tie.invariant-loop
 invariant-loop degrees near seen₀ queue₀ end i d last₀ p₀ seen queue last p =
     (p ≤ d) × Counted (record { seen = seen; queue = queue; end = last })
-    × (seeAll (record { seen = seen; queue = queue; end = last }) (drop p (row_in degrees near i)) ≡ seeAll (record { seen = seen₀; queue = queue₀; end = end }) (row_in degrees near i))
+    × (see_all (record { seen = seen; queue = queue; end = last }) (drop p (row_in degrees near i)) ≡ see_all (record { seen = seen₀; queue = queue₀; end = end }) (row_in degrees near i))
 
 abbrev decreases-loop : tie.decreases-loop
 decreases-loop degrees near seen₀ queue₀ end i d last₀ p₀ seen queue last p = d - p
@@ -59,19 +59,19 @@ loop-again c =
     let d : l.loop.p < get_or s.args.degrees.now s.args.a.0 0 = omega (arith, l.before.wide.ensures) in (
       omega arith,
       subst Counted (sym c.see.ensures) (see-counted _ _ l.loop.invariant.1 (s.requires.2 l.loop.p d)),
-      ap (λ (f : Flood). seeAll f (drop (l.loop.p + 1) (row_in s.args.degrees.now s.args.near.now s.args.a.0))) c.see.ensures
-          ∙ sym (seeAll-next s.args.degrees.now s.args.near.now s.args.a.0 l.loop.p _ (omega (arith, s.requires.1)) d)
+      ap (λ (f : Flood). see_all f (drop (l.loop.p + 1) (row_in s.args.degrees.now s.args.near.now s.args.a.0))) c.see.ensures
+          ∙ sym (see_all-next s.args.degrees.now s.args.near.now s.args.a.0 l.loop.p _ (omega (arith, s.requires.1)) d)
           ∙ l.loop.invariant.2,
     )
 
 returns : tie.Need-returns invariant-loop decreases-loop
-unfolding seeAll
+unfolding see_all
 returns c =
     let l = c.before in
     let s = c.before.before.before.before.before in
     let e : length (row_in s.args.degrees.now s.args.near.now s.args.a.0) ≤ l.loop.p
     = omega (arith, l.before.wide.ensures, row-long s.args.degrees.now s.args.near.now s.args.a.0 (omega (arith, s.requires.1))) in
-    sym (ap (seeAll (record { seen = l.loop.seen; queue = l.loop.queue; end = l.loop.last })) (drop_of_length-le _ e)) ∙ l.loop.invariant.2
+    sym (ap (see_all (record { seen = l.loop.seen; queue = l.loop.queue; end = l.loop.last })) (drop_of_length-le _ e)) ∙ l.loop.invariant.2
 
 pub visit-spec : {M : Type 1} → statement M
 visit-spec =

@@ -2,7 +2,7 @@
 use mathlib.Core.Path.{◌∙◌, sym, ap}
 use Rattle.text.specs.declared.item.Item.{Item}
 use Rattle.text.specs.Scanning.{item_of}
-use Rattle.text.specs.Judging.{openingFault}
+use Rattle.text.specs.Judging.{opening_fault}
 use borrow.Author.Rules.{rules}
 use Rattle.text.proofs.fault.opening_fault.Statement.{statement}
 use Rattle.text.proofs.fault.opening_fault.Tie as tie
@@ -20,7 +20,7 @@ enum-told-2 : tie.Need-enum-told-2
 enum-told-2 c = search rules
 
 returns : tie.Need-returns
-returns c = c.first-fault.ensures ∙ ap (λ (i : Item). openingFault (item_of i)) (sym c.before.before.item.given.1)
+returns c = c.first-fault.ensures ∙ ap (λ (i : Item). opening_fault (item_of i)) (sym c.before.before.item.given.1)
 
 returns-2 : tie.Need-returns-2
 returns-2 c = search rules

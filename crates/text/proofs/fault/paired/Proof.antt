@@ -5,8 +5,8 @@ use mathlib.Core.Bool.{false}
 use native.Mathlib.Omega.{arith}
 use Rattle.lists.specs.Upto.{each}
 use Rattle.lists.specs.Tests.{some}
-use Rattle.text.specs.Judging.{pairIn}
-use Rattle.text.proofs.FaultLaws.{some-pass-below, none-paired, still-none}
+use Rattle.text.specs.Judging.{pair_in}
+use Rattle.text.proofs.FaultLaws.{some-pass_below, none-paired, still_none}
 use borrow.Author.Rules.{rules}
 use Rattle.text.proofs.fault.paired.Statement.{statement}
 use Rattle.text.proofs.fault.paired.Tie as tie
@@ -16,7 +16,7 @@ use Rattle.text.proofs.fault.is_pair.Reads as is-pair-reads
 use Rattle.text.proofs.fault.wide_place.Reads as wide-place-reads
 
 abbrev invariant-loop : tie.invariant-loop
-invariant-loop one two drawn p q i₀ i = (i ≤ drawn) × (some (each i (pairIn one two p.0 q.0)) ≡ false)
+invariant-loop one two drawn p q i₀ i = (i ≤ drawn) × (some (each i (pair_in one two p.0 q.0)) ≡ false)
 
 abbrev decreases-loop : tie.decreases-loop
 decreases-loop one two drawn p q i₀ i = drawn - i
@@ -52,7 +52,7 @@ returns c =
     let L = c.before.before.before.before.before.before.before.loop in
     let e = c.before.is-pair.ensures in
     let f = simp (c.before.before.before.before.wide-place.ensures, c.before.before.wide-place2.ensures) at e in
-    sym (some-pass-below a.drawn _ L.i c.before.before.before.before.before.before.loop-test.true (sym f ∙ c.if1.true))
+    sym (some-pass_below a.drawn _ L.i c.before.before.before.before.before.before.loop-test.true (sym f ∙ c.if1.true))
 
 -- src/fault.rt:92:9
 add-i : tie.Need-overflow-add-i invariant-loop decreases-loop
@@ -69,7 +69,7 @@ loop-again c =
     let L = c.before.before.before.before.before.before.before.loop in
     let e = c.before.is-pair.ensures in
     let f = simp (c.before.before.before.before.wide-place.ensures, c.before.before.wide-place2.ensures) at e in
-    (omega arith, still-none L.i _ L.invariant.1 (sym f ∙ c.if1.false))
+    (omega arith, still_none L.i _ L.invariant.1 (sym f ∙ c.if1.false))
 
 -- src/fault.rt:77:1
 returns-2 : tie.Need-returns-2 invariant-loop decreases-loop
@@ -77,7 +77,7 @@ returns-2 c =
     let a = c.before.before.args in
     let L = c.before.loop in
     let e : L.i ≡ a.drawn = omega arith in
-    sym L.invariant.1 ∙ ap (λ (k : ℕ). some (each k (pairIn a.one.now a.two.now a.p.0 a.q.0))) e
+    sym L.invariant.1 ∙ ap (λ (k : ℕ). some (each k (pair_in a.one.now a.two.now a.p.0 a.q.0))) e
 
 pub paired-spec : {M : Type 1} → statement M
 paired-spec =

@@ -2,7 +2,7 @@
 use mathlib.Core.Path.{◌∙◌, sym, ap₂}
 use mathlib.Core.Bool.{Bool}
 use Rattle.text.specs.declared.fault.End.{End}
-use Rattle.text.specs.Judging.{end_at, pairedIn, ringFault}
+use Rattle.text.specs.Judging.{end_at, paired_in, ring_fault}
 use Rattle.text.proofs.JudgedLaws.{ring-5, ring-first, ring-4, ring-4', ring-4'', ring-0}
 use borrow.Author.Rules.{rules}
 use Rattle.text.proofs.fault.ring_fault.Statement.{statement}
@@ -15,7 +15,7 @@ returns : tie.Need-returns
 returns c =
     let a = c.before.before.before.args in
     ring-5 a.code a.to.0 (end_at a.kinds.now a.hydrogens.now a.degrees.now a.t.cursor.0) (end_at a.kinds.now a.hydrogens.now a.degrees.now a.to.0) a.t
-    (pairedIn a.one.now a.two.now a.t.drawn a.t.cursor.0 a.to.0) c.if1.true
+    (paired_in a.one.now a.two.now a.t.drawn a.t.cursor.0 a.to.0) c.if1.true
 
 end-at-requires : tie.Need-end-at-requires
 end-at-requires c κs = search rules
@@ -37,9 +37,9 @@ returns-2 c =
     let a = c.before.before.before.before.before.before.before.before.before.args in
     let e = c.before.before.before.before.before.end-at in
     let g = c.before.before.before.before.end-at2 in
-    let pair : Bool = pairedIn a.one.now a.two.now a.t.drawn a.t.cursor.0 a.to.0 in
+    let pair : Bool = paired_in a.one.now a.two.now a.t.drawn a.t.cursor.0 a.to.0 in
     ring-first a.code a.to.0 e.result g.result a.t pair c.before.before.before.before.before.before.if1.false _ _ _ c.before.before.before.h-fault.ensures c.before.before.pair-fault.ensures c.before.first_of.ensures c.if2.true
-    ∙ ap₂ (λ (x y : End). ringFault a.code a.to.0 x y a.t pair) e.ensures g.ensures
+    ∙ ap₂ (λ (x y : End). ring_fault a.code a.to.0 x y a.t pair) e.ensures g.ensures
 
 h-bond-requires : tie.Need-h-bond-requires
 h-bond-requires c κs = search rules
@@ -61,10 +61,10 @@ returns-3 c =
     let a = c.before.before.before.before.before.before.before.before.before.before.before.before.before.before.args in
     let e = c.before.before.before.before.before.before.before.before.before.before.end-at in
     let g = c.before.before.before.before.before.before.before.before.before.end-at2 in
-    let pair : Bool = pairedIn a.one.now a.two.now a.t.drawn a.t.cursor.0 a.to.0 in
+    let pair : Bool = paired_in a.one.now a.two.now a.t.drawn a.t.cursor.0 a.to.0 in
     ring-4 a.code a.to.0 e.result g.result a.t pair c.before.before.before.before.before.before.before.before.before.before.before.if1.false _ _ _ c.before.before.before.before.before.before.before.before.h-fault.ensures c.before.before.before.before.before.before.before.pair-fault.ensures c.before.before.before.before.before.before.first_of.ensures c.before.before.before.before.before.if2.false
     _ (c.before.before.before.wide.ensures.0 ∙ c.before.before.before.before.h-bond.ensures.is) (sym c.before.over.ensures ∙ c.if3.true)
-    ∙ ap₂ (λ (x y : End). ringFault a.code a.to.0 x y a.t pair) e.ensures g.ensures
+    ∙ ap₂ (λ (x y : End). ring_fault a.code a.to.0 x y a.t pair) e.ensures g.ensures
 
 wide-requires-2 : tie.Need-wide-requires-2
 wide-requires-2 c κs = search rules
@@ -89,11 +89,11 @@ returns-4 c =
     let a = c.before.before.before.before.before.before.before.before.before.before.before.before.before.before.before.before.before.before.args in
     let e = c.before.before.before.before.before.before.before.before.before.before.before.before.before.before.end-at in
     let g = c.before.before.before.before.before.before.before.before.before.before.before.before.before.end-at2 in
-    let pair : Bool = pairedIn a.one.now a.two.now a.t.drawn a.t.cursor.0 a.to.0 in
+    let pair : Bool = paired_in a.one.now a.two.now a.t.drawn a.t.cursor.0 a.to.0 in
     ring-4' a.code a.to.0 e.result g.result a.t pair c.before.before.before.before.before.before.before.before.before.before.before.before.before.before.before.if1.false _ _ _ c.before.before.before.before.before.before.before.before.before.before.before.before.h-fault.ensures c.before.before.before.before.before.before.before.before.before.before.before.pair-fault.ensures c.before.before.before.before.before.before.before.before.before.before.first_of.ensures c.before.before.before.before.before.before.before.before.before.if2.false
     _ (c.before.before.before.before.before.before.before.wide.ensures.0 ∙ c.before.before.before.before.before.before.before.before.h-bond.ensures.is) (sym c.before.before.before.before.before.over.ensures ∙ c.before.before.before.before.if3.false)
     _ _ c.before.before.before.wide2.ensures.0 c.before.before.wide3.ensures.0 (sym c.before.over-on.ensures ∙ c.if4.true)
-    ∙ ap₂ (λ (x y : End). ringFault a.code a.to.0 x y a.t pair) e.ensures g.ensures
+    ∙ ap₂ (λ (x y : End). ring_fault a.code a.to.0 x y a.t pair) e.ensures g.ensures
 
 wide-requires-4 : tie.Need-wide-requires-4
 wide-requires-4 c κs = search rules
@@ -118,24 +118,24 @@ returns-5 c =
     let a = c.before.before.before.before.before.before.before.before.before.before.before.before.before.before.before.before.before.before.before.before.before.before.args in
     let e = c.before.before.before.before.before.before.before.before.before.before.before.before.before.before.before.before.before.before.end-at in
     let g = c.before.before.before.before.before.before.before.before.before.before.before.before.before.before.before.before.before.end-at2 in
-    let pair : Bool = pairedIn a.one.now a.two.now a.t.drawn a.t.cursor.0 a.to.0 in
+    let pair : Bool = paired_in a.one.now a.two.now a.t.drawn a.t.cursor.0 a.to.0 in
     ring-4'' a.code a.to.0 e.result g.result a.t pair c.before.before.before.before.before.before.before.before.before.before.before.before.before.before.before.before.before.before.before.if1.false _ _ _ c.before.before.before.before.before.before.before.before.before.before.before.before.before.before.before.before.h-fault.ensures c.before.before.before.before.before.before.before.before.before.before.before.before.before.before.before.pair-fault.ensures c.before.before.before.before.before.before.before.before.before.before.before.before.before.before.first_of.ensures c.before.before.before.before.before.before.before.before.before.before.before.before.before.if2.false
     _ (c.before.before.before.before.before.before.before.before.before.before.before.wide.ensures.0 ∙ c.before.before.before.before.before.before.before.before.before.before.before.before.h-bond.ensures.is) (sym c.before.before.before.before.before.before.before.before.before.over.ensures ∙ c.before.before.before.before.before.before.before.before.if3.false)
     _ _ c.before.before.before.before.before.before.before.wide2.ensures.0 c.before.before.before.before.before.before.wide3.ensures.0 (sym c.before.before.before.before.before.over-on.ensures ∙ c.before.before.before.before.if4.false)
     _ _ c.before.before.before.wide4.ensures.0 c.before.before.wide5.ensures.0 (sym c.before.over-on2.ensures ∙ c.if5.true)
-    ∙ ap₂ (λ (x y : End). ringFault a.code a.to.0 x y a.t pair) e.ensures g.ensures
+    ∙ ap₂ (λ (x y : End). ring_fault a.code a.to.0 x y a.t pair) e.ensures g.ensures
 
 returns-6 : tie.Need-returns-6
 returns-6 c =
     let a = c.before.before.before.before.before.before.before.before.before.before.before.before.before.before.before.before.before.before.before.before.before.before.args in
     let e = c.before.before.before.before.before.before.before.before.before.before.before.before.before.before.before.before.before.before.end-at in
     let g = c.before.before.before.before.before.before.before.before.before.before.before.before.before.before.before.before.before.end-at2 in
-    let pair : Bool = pairedIn a.one.now a.two.now a.t.drawn a.t.cursor.0 a.to.0 in
+    let pair : Bool = paired_in a.one.now a.two.now a.t.drawn a.t.cursor.0 a.to.0 in
     ring-0 a.code a.to.0 e.result g.result a.t pair c.before.before.before.before.before.before.before.before.before.before.before.before.before.before.before.before.before.before.before.if1.false _ _ _ c.before.before.before.before.before.before.before.before.before.before.before.before.before.before.before.before.h-fault.ensures c.before.before.before.before.before.before.before.before.before.before.before.before.before.before.before.pair-fault.ensures c.before.before.before.before.before.before.before.before.before.before.before.before.before.before.first_of.ensures c.before.before.before.before.before.before.before.before.before.before.before.before.before.if2.false
     _ (c.before.before.before.before.before.before.before.before.before.before.before.wide.ensures.0 ∙ c.before.before.before.before.before.before.before.before.before.before.before.before.h-bond.ensures.is) (sym c.before.before.before.before.before.before.before.before.before.over.ensures ∙ c.before.before.before.before.before.before.before.before.if3.false)
     _ _ c.before.before.before.before.before.before.before.wide2.ensures.0 c.before.before.before.before.before.before.wide3.ensures.0 (sym c.before.before.before.before.before.over-on.ensures ∙ c.before.before.before.before.if4.false)
     _ _ c.before.before.before.wide4.ensures.0 c.before.before.wide5.ensures.0 (sym c.before.over-on2.ensures ∙ c.if5.false)
-    ∙ ap₂ (λ (x y : End). ringFault a.code a.to.0 x y a.t pair) e.ensures g.ensures
+    ∙ ap₂ (λ (x y : End). ring_fault a.code a.to.0 x y a.t pair) e.ensures g.ensures
 
 pub ring-fault-spec : {M : Type 1} → statement M
 ring-fault-spec =

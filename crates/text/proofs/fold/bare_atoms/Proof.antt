@@ -5,17 +5,17 @@ use native.Mathlib.Omega.{arith}
 use native.Mathlib.Nat.{not-suc-le-zero}
 use lib.ListN.{length, get_or, length-set}
 use Rattle.text.specs.Holding.{view_of}
-use Rattle.text.specs.Folding.{heaviesTo}
+use Rattle.text.specs.Folding.{heavies_to}
 use Rattle.text.proofs.ReachedLaws.{reached-reader, reached-room}
 use Rattle.text.proofs.StateLaws.{view_places, view-kind}
-use Rattle.text.proofs.FoldLaws.{Heavies, heavies-start, heavies-step, heavies-bare, bare-room, bare-small, numbered_more}
+use Rattle.text.proofs.FoldLaws.{Heavies, heavies_start, heavies_step, heavies_bare, bare-room, bare-small, numbered_more}
 use borrow.Author.Rules.{rules}
 use Rattle.text.proofs.fold.bare_atoms.Statement.{statement}
 use Rattle.text.proofs.fold.bare_atoms.Tie as tie
 
 abbrev invariant-loop : tie.invariant-loop
 invariant-loop st kinds₀ hydrogens₀ numbers₀ n₀ p₀ kinds hydrogens numbers n p =
-    (p ≤ st.n) × Heavies (view_of st) p n kinds hydrogens × (length numbers ≡ 192) × ((q : ℕ) → q < p → get_or numbers q 0 ≡ length (heaviesTo (view_of st) q))
+    (p ≤ st.n) × Heavies (view_of st) p n kinds hydrogens × (length numbers ≡ 192) × ((q : ℕ) → q < p → get_or numbers q 0 ≡ length (heavies_to (view_of st) q))
 
 abbrev decreases-loop : tie.decreases-loop
 decreases-loop st kinds₀ hydrogens₀ numbers₀ n₀ p₀ kinds hydrogens numbers n p = st.n - p
@@ -43,7 +43,7 @@ room l h n =
     )
 
 loop-holds : tie.Need-loop-init invariant-loop decreases-loop
-loop-holds c = (omega arith, heavies-start (view_of c.args.t1), search rules, λ q h. absurd (not-suc-le-zero h))
+loop-holds c = (omega arith, heavies_start (view_of c.args.t1), search rules, λ q h. absurd (not-suc-le-zero h))
 
 narrow-requires : tie.Need-narrow-requires invariant-loop decreases-loop
 narrow-requires c κs = omega (arith, few c.before)
@@ -74,7 +74,7 @@ loop-again c =
     let L = l.loop in
     let h : L.p < st.n = c.before.before.before.before.before.before.loop-test.true in (
       omega arith,
-      heavies-step (view_of st) L.p L.n L.kinds L.hydrogens L.invariant.1 _ _ (sym (view-kind st L.p h)) (t.hydrogensOn L.p (omega (arith, t.places))) (room l h) _ _ _ c.put-heavy.ensures,
+      heavies_step (view_of st) L.p L.n L.kinds L.hydrogens L.invariant.1 _ _ (sym (view-kind st L.p h)) (t.hydrogens_on L.p (omega (arith, t.places))) (room l h) _ _ _ c.put-heavy.ensures,
       length-set L.numbers L.p c.before.before.before.before.before.narrow.result ∙ L.invariant.2,
       numbered_more (view_of st) L.numbers L.p _ (omega (arith, t.places, L.invariant.2)) (c.before.before.before.before.before.narrow.ensures ∙ L.invariant.1.size) L.invariant.3,
     )
@@ -85,7 +85,7 @@ returns c =
     let st = l.before.args.t1 in
     let L = l.loop in
     let e : L.p ≡ st.n = omega (arith, c.loop-test.false, L.invariant.0) in
-    let B = heavies-bare (view_of st) st.n L.n L.kinds L.hydrogens (few l) (subst (λ (i : ℕ). Heavies (view_of st) i L.n L.kinds L.hydrogens) e L.invariant.1) in
+    let B = heavies_bare (view_of st) st.n L.n L.kinds L.hydrogens (few l) (subst (λ (i : ℕ). Heavies (view_of st) i L.n L.kinds L.hydrogens) e L.invariant.1) in
     record { tidy = B.0; is = B.1; long = L.invariant.2; numbers = λ p h. L.invariant.3 p (omega arith) }
 
 pub bare-atoms-spec : {M : Type 1} → statement M

@@ -7,9 +7,9 @@ use lib.ListN.{length, get_or}
 use Rattle.table.specs.declared.Table.{Table}
 use Rattle.table.specs.View.{TidyTable}
 use Rattle.text.specs.Holding.{view_of}
-use Rattle.text.specs.Folding.{moleculeOf, heaviesTo, BareTo}
+use Rattle.text.specs.Folding.{molecule_of, heavies_to, BareTo}
 use Rattle.text.proofs.StateLaws.{view_places, view-bonds}
-use Rattle.text.proofs.LinkLaws.{LinkedTo, linked-start, linked-end, low-one, low-two, fold-fits, fold_step}
+use Rattle.text.proofs.LinkLaws.{LinkedTo, linked-start, linked-end, low-one, low-two, fold_fits, fold_step}
 use borrow.Author.Rules.{rules}
 use Rattle.text.proofs.fold.folded.Statement.{statement}
 use Rattle.text.proofs.fold.folded.Tie as tie
@@ -19,8 +19,8 @@ made n kinds hydrogens degrees near codes = record { n = n; kinds = kinds; hydro
 
 abbrev invariant-loop : tie.invariant-loop
 invariant-loop st numbers bare kinds hydrogens degrees₀ near₀ codes₀ k₀ degrees near codes k =
-    (k ≤ st.drawn) × TidyTable (made bare.n kinds hydrogens degrees near codes) × LinkedTo (view_of st) k (moleculeOf (made bare.n kinds hydrogens degrees near codes))
-    × (length numbers ≡ 192) × ((q : ℕ) → q < st.n → get_or numbers q 0 ≡ length (heaviesTo (view_of st) q))
+    (k ≤ st.drawn) × TidyTable (made bare.n kinds hydrogens degrees near codes) × LinkedTo (view_of st) k (molecule_of (made bare.n kinds hydrogens degrees near codes))
+    × (length numbers ≡ 192) × ((q : ℕ) → q < st.n → get_or numbers q 0 ≡ length (heavies_to (view_of st) q))
 
 abbrev decreases-loop : tie.decreases-loop
 decreases-loop st numbers bare kinds hydrogens degrees₀ near₀ codes₀ k₀ degrees near codes k = st.drawn - k
@@ -44,7 +44,7 @@ loop-holds c =
     let B = c.before.before.before.before.before.before.before.bare-atoms.ensures in (
       omega arith,
       B.tidy,
-      linked-start (view_of st) _ (subst (λ (i : ℕ). BareTo (view_of st) i (moleculeOf r.table)) (sym (view_places st c.before.before.before.before.before.before.before.before.requires.tallied)) B.is),
+      linked-start (view_of st) _ (subst (λ (i : ℕ). BareTo (view_of st) i (molecule_of r.table)) (sym (view_places st c.before.before.before.before.before.before.before.before.requires.tallied)) B.is),
       B.long,
       B.numbers,
     )
@@ -80,7 +80,7 @@ put-link-requires : tie.Need-put-link-requires invariant-loop decreases-loop
 put-link-requires c κs =
     let l = c.before.before.before.before.before.before.before.before.before.before.before in
     let s = l.before.before.before.before.before.before.before.before.before in
-    fold-fits s.args.t1 s.requires l.loop.k c.before.before.before.before.before.before.before.before.before.before.loop-test.true _ _ c.before.before.before.before.before.before.before.before.wide.ensures.0 c.before.before.before.before.before.before.wide2.ensures.0 l.before.before.before.before.before.before.before.before.bare-atoms.result.numbers l.loop.invariant.4 _ l.loop.invariant.1 l.loop.invariant.2
+    fold_fits s.args.t1 s.requires l.loop.k c.before.before.before.before.before.before.before.before.before.before.loop-test.true _ _ c.before.before.before.before.before.before.before.before.wide.ensures.0 c.before.before.before.before.before.before.wide2.ensures.0 l.before.before.before.before.before.before.before.before.bare-atoms.result.numbers l.loop.invariant.4 _ l.loop.invariant.1 l.loop.invariant.2
 
 add-k : tie.Need-overflow-add-k invariant-loop decreases-loop
 add-k c = omega (arith, c.before.before.before.before.before.before.before.before.before.before.before.loop-test.true, c.before.before.before.before.before.before.before.before.before.before.before.before.before.before.before.before.before.before.before.before.before.requires.tallied.drawn)

@@ -7,11 +7,11 @@ use Rattle.sling.specs.Reading as rules
 use Rattle.sling.specs.Scanned.{tokens}
 use Rattle.sling.specs.Faults.{finished, judged, run}
 use Rattle.text.specs.declared.state.State.{State}
-use Rattle.text.specs.Scanning.{scannedOf, Sane}
+use Rattle.text.specs.Scanning.{scanned_of, Sane}
 use Rattle.text.specs.Holding.{view_of, Held}
 use Rattle.text.specs.Changing.{state_of}
 use Rattle.text.specs.Outcomes.{Reads}
-use Rattle.text.proofs.ChangeLaws.{empty-state, view-attached, climbable}
+use Rattle.text.proofs.ChangeLaws.{empty_state, view-attached, climbable}
 use Rattle.text.proofs.ResolvedLaws.{resolved-fault, resolved-after, resolved-code}
 use Rattle.text.proofs.ReadLaws.{run-broken, run-fault, run-next, run_end}
 use borrow.Author.Rules.{rules}
@@ -30,7 +30,7 @@ empty-requires : tie.Need-empty-requires invariant-loop decreases-loop
 empty-requires c κs = search rules
 
 loop-holds : tie.Need-loop-init invariant-loop decreases-loop
-loop-holds c = let e = empty-state _ c.empty.ensures in (e.1, rw e.0)
+loop-holds c = let e = empty_state _ c.empty.ensures in (e.1, rw e.0)
 
 scan-requires : tie.Need-scan-requires invariant-loop decreases-loop
 scan-requires c κs = c.loop-test.true
@@ -51,7 +51,7 @@ returns c =
     let r = c.refused in
     record {
       is = ap₂ (λ (f p : ℕ). judged f p (view_of r.result.state) finished) r.ensures.0 r.ensures.1
-          ∙ run-broken _ L.at c.before.before.before.before.loop-test.true (view_of st) (sym c.before.before.before.scan.ensures.is ∙ ap (scannedOf L.at) c.before.enum_told.given.1) ∙ L.invariant.1;
+          ∙ run-broken _ L.at c.before.before.before.before.loop-test.true (view_of st) (sym c.before.before.before.scan.ensures.is ∙ ap (scanned_of L.at) c.before.enum_told.given.1) ∙ L.invariant.1;
       held = r.ensures.2;
     }
 
@@ -74,7 +74,7 @@ returns-2 c =
     let r = c.refused2 in
     record {
       is = ap₂ (λ (f p : ℕ). judged f p (view_of r.result.state) finished) r.ensures.0 r.ensures.1
-          ∙ run-fault _ L.at c.before.before.before.before.before.before.before.before.before.before.before.before.before.before.before.loop-test.true _ _ g.0 (sym c.before.before.before.before.before.before.before.before.before.before.before.before.before.before.scan.ensures.is ∙ ap (scannedOf L.at) c.before.before.before.before.before.before.before.before.before.before.before.before.scanned.given.1)
+          ∙ run-fault _ L.at c.before.before.before.before.before.before.before.before.before.before.before.before.before.before.before.loop-test.true _ _ g.0 (sym c.before.before.before.before.before.before.before.before.before.before.before.before.before.before.scan.ensures.is ∙ ap (scanned_of L.at) c.before.before.before.before.before.before.before.before.before.before.before.before.scanned.given.1)
           (view_of st) (view_of r.result.state) _ (c.before.before.item-fault.ensures L.codes L.invariant.0 ∙ resolved-fault (view_of st) _ _ e) c.before.if1.true ∙ L.invariant.1;
       held = r.ensures.2;
     }
@@ -106,7 +106,7 @@ loop-again c =
     let next = c.before.before.before.before.before.before.before.before.before.before.before.before.before.before.before.before.before.before.before.scanned.given.0.1.0 in (
       c.after.ensures.held,
       ap (run (tokens (drop next s) 0 next)) (c.after.ensures.is ∙ resolved-after (view_of st) _ _ e)
-          ∙ run-next s L.at c.before.before.before.before.before.before.before.before.before.before.before.before.before.before.before.before.before.before.before.before.before.before.loop-test.true _ next g.0 (sym c.before.before.before.before.before.before.before.before.before.before.before.before.before.before.before.before.before.before.before.before.before.scan.ensures.is ∙ ap (scannedOf L.at) c.before.before.before.before.before.before.before.before.before.before.before.before.before.before.before.before.before.before.before.scanned.given.1)
+          ∙ run-next s L.at c.before.before.before.before.before.before.before.before.before.before.before.before.before.before.before.before.before.before.before.before.before.before.loop-test.true _ next g.0 (sym c.before.before.before.before.before.before.before.before.before.before.before.before.before.before.before.before.before.before.before.before.before.scan.ensures.is ∙ ap (scanned_of L.at) c.before.before.before.before.before.before.before.before.before.before.before.before.before.before.before.before.before.before.before.scanned.given.1)
           (view_of st) (sym (c.before.before.before.before.before.before.before.before.before.item-fault.ensures L.codes L.invariant.0 ∙ resolved-fault (view_of st) _ _ e) ∙ c.before.before.before.before.before.before.before.before.if1.false)
           ∙ L.invariant.1,
     )

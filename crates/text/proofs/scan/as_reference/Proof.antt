@@ -1,6 +1,6 @@
 -- The definition at the case that was matched.
 use mathlib.Core.Path.{sym, ap}
-use Rattle.text.specs.Scanning.{referenceOf}
+use Rattle.text.specs.Scanning.{reference_of}
 use borrow.Author.Rules.{rules}
 use Rattle.text.proofs.scan.as_reference.Statement.{statement}
 use Rattle.text.proofs.scan.as_reference.Tie as tie
@@ -21,7 +21,7 @@ returns c = search rules
 
 -- src/scan.rt:68:1
 returns-2 : tie.Need-returns-2
-returns-2 c = ap referenceOf (sym c.before.a.given.1)
+returns-2 c = ap reference_of (sym c.before.a.given.1)
 
 pub as-reference-spec : {M : Type 1} → statement M
 as-reference-spec = tie.close (tie.spec enum_told enum-known-a returns returns-2)

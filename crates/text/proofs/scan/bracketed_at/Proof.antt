@@ -2,7 +2,7 @@
 use mathlib.Core.Path.{◌∙◌, sym}
 use native.Mathlib.Omega.{arith}
 use borrow.Author.Tests.{not-true, not-false, eq-eqb, ne_eqb}
-use Rattle.text.proofs.ScanLaws.{bracket-short, bracket-bad, bracket-good}
+use Rattle.text.proofs.ScanLaws.{bracket_short, bracket_bad, bracket_good}
 use borrow.Author.Rules.{rules}
 use Rattle.text.proofs.scan.bracketed_at.Statement.{statement}
 use Rattle.text.proofs.scan.bracketed_at.Tie as tie
@@ -17,7 +17,7 @@ sub-if1 c = search rules
 
 -- src/scan.rt:92:9
 returns : tie.Need-returns
-returns c = bracket-short _ _ _ c.before.before.requires.1 c.before.before.requires.2 c.before.before.requires.0 c.if1.true
+returns c = bracket_short _ _ _ c.before.before.requires.1 c.before.before.requires.2 c.before.before.requires.0 c.if1.true
 
 -- src/scan.rt:94:24
 add-capital : tie.Need-overflow-add-capital
@@ -42,7 +42,7 @@ is-capital-requires c κs = search rules
 -- src/scan.rt:97:9
 returns-2 : tie.Need-returns-2
 returns-2 c =
-    bracket-bad _ _ _ c.before.before.before.before.before.before.requires.1 c.before.before.before.before.before.before.requires.2 (omega arith) (simp (sym c.before.is-capital.ensures ∙ not-true _ c.if2.true))
+    bracket_bad _ _ _ c.before.before.before.before.before.before.requires.1 c.before.before.before.before.before.before.requires.2 (omega arith) (simp (sym c.before.is-capital.ensures ∙ not-true _ c.if2.true))
 
 -- src/scan.rt:99:9
 is-small-requires : tie.Need-is-small-requires
@@ -51,7 +51,7 @@ is-small-requires c κs = search rules
 -- src/scan.rt:100:9
 returns-3 : tie.Need-returns-3
 returns-3 c =
-    bracket-bad _ _ _ c.before.before.before.before.before.before.before.before.requires.1 c.before.before.before.before.before.before.before.before.requires.2 (omega arith)
+    bracket_bad _ _ _ c.before.before.before.before.before.before.before.before.requires.1 c.before.before.before.before.before.before.before.before.requires.2 (omega arith)
     (simp (sym c.before.before.before.is-capital.ensures ∙ not-false _ c.before.before.if2.false, sym c.before.is-small.ensures ∙ not-true _ c.if3.true))
 
 -- src/scan.rt:102:13
@@ -65,7 +65,7 @@ shared-slice-read-if4 c = search rules
 -- src/scan.rt:103:9
 returns-4 : tie.Need-returns-4
 returns-4 c =
-    bracket-bad _ _ _ c.before.before.before.before.before.before.before.before.before.before.requires.1 c.before.before.before.before.before.before.before.before.before.before.requires.2 (omega arith)
+    bracket_bad _ _ _ c.before.before.before.before.before.before.before.before.before.before.requires.1 c.before.before.before.before.before.before.before.before.before.before.requires.2 (omega arith)
     (simp (
       sym c.before.before.before.before.before.is-capital.ensures ∙ not-false _ c.before.before.before.before.if2.false,
       sym c.before.before.before.is-small.ensures ∙ not-false _ c.before.before.if3.false,
@@ -83,7 +83,7 @@ add-t8 c = search rules
 -- src/scan.rt:87:1
 returns-5 : tie.Need-returns-5
 returns-5 c =
-    bracket-good _ _ _ c.before.before.before.before.before.before.before.before.before.before.before.requires.1 c.before.before.before.before.before.before.before.before.before.before.before.requires.2 (omega arith) _ c.kind-of-letters.ensures
+    bracket_good _ _ _ c.before.before.before.before.before.before.before.before.before.before.before.requires.1 c.before.before.before.before.before.before.before.before.before.before.before.requires.2 (omega arith) _ c.kind-of-letters.ensures
     (simp (
       sym c.before.before.before.before.before.before.is-capital.ensures ∙ not-false _ c.before.before.before.before.before.if2.false,
       sym c.before.before.before.before.is-small.ensures ∙ not-false _ c.before.before.before.if3.false,

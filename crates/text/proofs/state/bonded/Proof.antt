@@ -4,7 +4,7 @@ use mathlib.Core.Path.{◌≡◌, refl, ap, ◌∙◌}
 use lib.ListN.{set}
 use Rattle.text.specs.declared.item.Place.{Place}
 use Rattle.text.specs.declared.tally.Tally.{Tally}
-use Rattle.text.specs.Changing.{hBetween, raisedAt}
+use Rattle.text.specs.Changing.{h_between, raised_at}
 use borrow.Author.Rules.{rules}
 use Rattle.text.proofs.state.bonded.Statement.{statement}
 use Rattle.text.proofs.state.bonded.Tie as tie
@@ -66,12 +66,12 @@ add-next-2 c = search rules
 returns : tie.Need-returns
 returns c =
     let a = c.before.before.before.before.before.before.before.before.before.before.before.before.before.before.args in
-    let h : c.before.before.before.before.before.before.before.before.h-bond.result ≡ hBetween a.kinds.now a.t.cursor.0 a.to.0 = c.before.before.before.before.before.before.before.before.h-bond.ensures.is in (
+    let h : c.before.before.before.before.before.before.before.before.h-bond.result ≡ h_between a.kinds.now a.t.cursor.0 a.to.0 = c.before.before.before.before.before.before.before.before.h-bond.ensures.is in (
       ap (set a.one.now a.t.drawn) c.before.before.before.before.before.before.before.narrow.ensures,
       ap (set a.two.now a.t.drawn) c.before.before.before.before.before.before.narrow2.ensures,
       refl,
-      c.before.before.before.before.raise.ensures ∙ ap (raisedAt a.hydrogens.now a.t.cursor.0 a.to.0) h,
-      c.before.before.raise2.ensures ∙ ap (λ (x : ℕ). raisedAt a.degrees.now a.t.cursor.0 a.to.0 (1 - x)) h,
+      c.before.before.before.before.raise.ensures ∙ ap (raised_at a.hydrogens.now a.t.cursor.0 a.to.0) h,
+      c.before.before.raise2.ensures ∙ ap (λ (x : ℕ). raised_at a.degrees.now a.t.cursor.0 a.to.0 (1 - x)) h,
       ap (with-bond a.t a.to) (c.before.wide.ensures.0 ∙ ap (λ (x : ℕ). 1 - x) h),
     )
 

@@ -2,7 +2,7 @@
 use mathlib.Core.Path.{◌∙◌, sym, ap, subst}
 use native.Mathlib.Omega.{arith}
 use Rattle.text.specs.Scanning.{number_of, Small}
-use Rattle.text.proofs.ScanLaws.{step-none, step-zero, step-found}
+use Rattle.text.proofs.ScanLaws.{step_none, step_zero, step_found}
 use borrow.Author.Rules.{rules}
 use Rattle.text.proofs.target.steps_at.Statement.{statement}
 use Rattle.text.proofs.target.steps_at.Tie as tie
@@ -24,7 +24,7 @@ enum-known-value c = search rules
 
 -- src/target.rt:35:17
 returns : tie.Need-returns
-returns c = step-zero _ _ _ _ c.if1.true (sym c.before.before.before.before.number-at.ensures.is ∙ ap number_of c.before.before.value.given.1)
+returns c = step_zero _ _ _ _ c.if1.true (sym c.before.before.before.before.number-at.ensures.is ∙ ap number_of c.before.before.value.given.1)
 
 -- src/target.rt:37:43
 add-t9 : tie.Need-overflow-add-t9
@@ -32,13 +32,13 @@ add-t9 c = let h = subst Small c.before.before.value.given.1 c.before.before.bef
 
 -- src/target.rt:27:1
 returns-2 : tie.Need-returns-2
-returns-2 c = step-none _ _ (sym c.before.before.number-at.ensures.is ∙ ap number_of c.enum_told.given.1)
+returns-2 c = step_none _ _ (sym c.before.before.number-at.ensures.is ∙ ap number_of c.enum_told.given.1)
 
 -- src/target.rt:27:1
 returns-3 : tie.Need-returns-3
 returns-3 c =
     let h = subst Small c.before.before.value.given.1 c.before.before.before.before.number-at.ensures.small in
-    step-found _ _ _ _ c.if1.false h.0 (sym c.before.before.before.before.number-at.ensures.is ∙ ap number_of c.before.before.value.given.1)
+    step_found _ _ _ _ c.if1.false h.0 (sym c.before.before.before.before.number-at.ensures.is ∙ ap number_of c.before.before.value.given.1)
 
 pub steps-at-spec : {M : Type 1} → statement M
 steps-at-spec =

@@ -1,7 +1,7 @@
 use mathlib.Core.Path.{refl}
 use native.Mathlib.Omega.{arith}
 use Rattle.sling.specs.Walk.{close}
-use Rattle.writing.proofs.Letters.{put-room, letters-put}
+use Rattle.writing.proofs.Letters.{put-room, letters_put}
 use Rattle.writing.proofs.strokes.put.Statement.{statement}
 use Rattle.writing.proofs.strokes.put.Tie as tie
 
@@ -12,7 +12,7 @@ add-t8 : tie.Need-overflow-add-t8
 add-t8 c = let l = c.before.before.before.before.requires.1.2 in omega (arith, l.next, l.few, l.room)
 
 returns : tie.Need-returns
-returns c = λ s w l h. letters-put _ _ w l s _ _ h _ _ c.before.before.put-atom.ensures refl refl refl
+returns c = λ s w l h. letters_put _ _ w l s _ _ h _ _ c.before.before.put-atom.ensures refl refl refl
 
 pub put_spec : {M : Type 1} → statement M
 put_spec = tie.close (tie.spec put-atom-requires add-t8 returns)

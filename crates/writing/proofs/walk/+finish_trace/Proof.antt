@@ -3,10 +3,10 @@ use native.Mathlib.Omega.{arith}
 use borrow.Author.Rules.{rules}
 use lib.ListN.{get_or, take}
 use Rattle.molecule.specs.Molecule.{Molecule}
-use Rattle.sling.specs.Walk.{Written, neighboursAt, traces}
+use Rattle.sling.specs.Walk.{Written, neighbours_at, traces}
 use Rattle.sling.specs.Walk.{finish as finish-of}
 use Rattle.writing.specs.Lent.{Shows}
-use Rattle.writing.proofs.Cycle.{Going, finish-none, finish-here, hydrogens-room, going, finish-split, along-none, along-next, along-end, along-ready, next-atom, trace-here, trace-there, shows-done, back-room, shows-back, onward-is, onward-known, onward-room, onward-ready}
+use Rattle.writing.proofs.Cycle.{Going, finish-none, finish-here, hydrogens-room, going, finish-split, along_none, along_next, along_end, along_ready, next-atom, trace-here, trace-there, shows_done, back-room, shows_back, onward_is, onward_known, onward_room, onward_ready}
 use Prim.Native.Nat.{ℕ, suc, ◌+◌, ◌-◌, ◌*◌, ◌<◌, ◌≤◌}
 use borrow.Fn.Kinds.{In}
 use borrow.Fn.PlainCycle.{Measures, is, falls, and}
@@ -49,7 +49,7 @@ finish-Inv-loop kinds hydrogens degrees near codes buffer₀ places₀ traced₀
     → Going (record { kinds = kinds; hydrogens = hydrogens; degrees = degrees; near = near; codes = codes })
     (record { buffer = buffer₀; places = places₀; traced = traced₀; pen = moved₀ }) atom.0 (depth - 1) W w
     → Shows W.size (record { buffer = buffer; places = places; traced = traced; pen = moved })
-    (traces (finish-of (depth - 1) W) W (suc atom.0) (take k (neighboursAt W (suc atom.0))) w))
+    (traces (finish-of (depth - 1) W) W (suc atom.0) (take k (neighbours_at W (suc atom.0))) w))
 
 abbrev finish-μ-loop : finish-lts.decreases-loop
 finish-μ-loop kinds hydrogens degrees near codes buffer₀ places₀ traced₀ atom depth a degree moved₀ k₀ buffer places traced moved k =
@@ -143,7 +143,7 @@ finish-loop-holds : (t : ℕ) → finish-lts.Need-loop-init (
   trace-below t,
   trace.Post,
 ) (finish-at t) finish.Post finish-Inv-loop finish-μ-loop
-finish-loop-holds t c = (omega arith, c.before.before.before.before.wide.ensures, λ W w G. subst (Shows W.size _) (sym (along-none _ _ _ _ W w G)) G.shown)
+finish-loop-holds t c = (omega arith, c.before.before.before.before.wide.ensures, λ W w G. subst (Shows W.size _) (sym (along_none _ _ _ _ W w G)) G.shown)
 
 finish-sub-trace : (t : ℕ) → finish-lts.Need-overflow-sub-trace (
   wide-reads.Asked,
@@ -169,7 +169,7 @@ finish-trace-requires t c κs =
     let i = c.before.before.before.before.loop in
     let G = going _ _ _ _ q.0 q.1 q.2 c.before.before.before.before.before.before.before.before.before.before.before.before.if1.false _ _ (c.before.before.before.before.before.put-hydrogens.ensures (suc c.before.before.before.before.before.before.before.before.before.before.before.before.before.args.atom.0) q.1 q.2.shown.text (finish-here _ _ _ _ q.0 q.1 q.2) (hydrogens-room _ _ _ _ q.0 q.1 q.2 c.before.before.before.before.before.before.before.before.before.before.before.before.if1.false)) in
     let h : i.k < get_or c.before.before.before.before.before.before.before.before.before.before.before.before.before.args.degrees.now c.before.before.before.before.before.before.before.before.before.before.before.before.before.args.atom.0 0 = omega (arith, c.before.before.before.loop-test.true, i.invariant.1) in
-    (omega (arith, c.before.before.before.before.before.before.before.before.before.before.before.before.before.requires.0), (q.0, _, along-ready _ _ _ _ q.0 _ G i.k _ h (i.invariant.2 q.0 _ G)))
+    (omega (arith, c.before.before.before.before.before.before.before.before.before.before.before.before.before.requires.0), (q.0, _, along_ready _ _ _ _ q.0 _ G i.k _ h (i.invariant.2 q.0 _ G)))
 
 finish-add-k : (t : ℕ) → finish-lts.Need-overflow-add-k (
   wide-reads.Asked,
@@ -204,7 +204,7 @@ finish-loop-again t c =
     let h : i.k < get_or c.before.before.before.before.before.before.before.before.before.before.before.before.before.before.args.degrees.now c.before.before.before.before.before.before.before.before.before.before.before.before.before.before.args.atom.0 0 = omega (arith, c.before.before.before.before.loop-test.true, i.invariant.1) in (
       omega (arith, c.before.before.before.before.loop-test.true),
       i.invariant.1,
-      λ W w G. subst (Shows W.size _) (sym (along-next _ _ _ _ W w G i.k h)) (c.trace.ensures W _ (along-ready _ _ _ _ W w G i.k _ h (i.invariant.2 W w G))),
+      λ W w G. subst (Shows W.size _) (sym (along_next _ _ _ _ W w G i.k h)) (c.trace.ensures W _ (along_ready _ _ _ _ W w G i.k _ h (i.invariant.2 W w G))),
     )
 
 finish-returns-2 : (t : ℕ) → finish-lts.Need-returns-2 (
@@ -220,7 +220,7 @@ finish-returns-2 t c =
     let i = c.before.loop in
     let G = going _ _ _ _ W w F c.before.before.before.before.before.before.before.before.before.if1.false _ _ (c.before.before.put-hydrogens.ensures (suc c.before.before.before.before.before.before.before.before.before.before.args.atom.0) w F.shown.text (finish-here _ _ _ _ W w F) (hydrogens-room _ _ _ _ W w F c.before.before.before.before.before.before.before.before.before.if1.false)) in
     let h : get_or c.before.before.before.before.before.before.before.before.before.before.args.degrees.now c.before.before.before.before.before.before.before.before.before.before.args.atom.0 0 ≤ i.k = omega (arith, c.loop-test.false, i.invariant.1) in
-    subst (Shows W.size _) (along-end _ _ _ _ W _ G i.k h ∙ sym (finish-split _ _ _ _ W w F c.before.before.before.before.before.before.before.before.before.if1.false)) (i.invariant.2 W _ G)
+    subst (Shows W.size _) (along_end _ _ _ _ W _ G i.k h ∙ sym (finish-split _ _ _ _ W w F c.before.before.before.before.before.before.before.before.before.if1.false)) (i.invariant.2 W _ G)
 
 trace-cast-a : (t : ℕ) → trace-lts.Need-overflow-cast-a (
   ring-reads.Asked,
@@ -310,7 +310,7 @@ trace-returns : (t : ℕ) → trace-lts.Need-returns (
   finish-below t,
   finish.Post,
 ) (trace-at t) trace.Post
-trace-returns t c = λ W w T. shows-done _ _ _ _ _ W w T c.if1.true
+trace-returns t c = λ W w T. shows_done _ _ _ _ _ W w T c.if1.true
 
 trace-element-copy-out-branch : (t : ℕ) → trace-lts.Need-element-copy-out-branch (
   ring-reads.Asked,
@@ -387,7 +387,7 @@ trace-returns-2 : (t : ℕ) → trace-lts.Need-returns-2 (
 ) (trace-at t) trace.Post
 trace-returns-2 t c =
     λ W w T.
-    shows-back _ _ _ _ _ W w T c.before.before.before.before.before.before.before.before.if1.false c.before.before.before.if2.true _ _ _ c.ring.ensures.0
+    shows_back _ _ _ _ _ W w T c.before.before.before.before.before.before.before.before.if1.false c.before.before.before.if2.true _ _ _ c.ring.ensures.0
     (c.ring.ensures.1 w T.shown.text (trace-here _ _ _ _ _ W w T) (trace-there _ _ _ _ _ W w T c.before.before.before.if2.true) (back-room _ _ _ _ _ W w T c.before.before.before.before.before.before.before.before.if1.false c.before.before.before.if2.true))
 
 trace-element-copy-out-branch-2 : (t : ℕ) → trace-lts.Need-element-copy-out-branch-2 (
@@ -412,8 +412,8 @@ trace-branch-requires t c κs =
     let q = c.before.before.before.before.before.before.before.before.before.before.before.before.before.before.requires.1 in (
       omega (arith, q.2.atom, q.2.lent.atoms),
       omega (arith, next-atom _ _ _ _ _ q.0 q.1 q.2, q.2.lent.atoms),
-      onward-known _ _ _ _ _ q.0 q.1 q.2 c.before.before.before.before.before.before.before.before.before.if1.false c.before.before.before.before.if2.false,
-      (q.1, q.2.shown.text, trace-here _ _ _ _ _ q.0 q.1 q.2, onward-room _ _ _ _ _ q.0 q.1 q.2 c.before.before.before.before.before.before.before.before.before.if1.false c.before.before.before.before.if2.false),
+      onward_known _ _ _ _ _ q.0 q.1 q.2 c.before.before.before.before.before.before.before.before.before.if1.false c.before.before.before.before.if2.false,
+      (q.1, q.2.shown.text, trace-here _ _ _ _ _ q.0 q.1 q.2, onward_room _ _ _ _ _ q.0 q.1 q.2 c.before.before.before.before.before.before.before.before.before.if1.false c.before.before.before.before.if2.false),
     )
 
 trace-finish-requires : (t : ℕ) → trace-lts.Need-finish-requires (
@@ -426,7 +426,7 @@ trace-finish-requires : (t : ℕ) → trace-lts.Need-finish-requires (
 ) (trace-at t) trace.Post
 trace-finish-requires t c κs =
     let q = c.before.before.before.before.before.before.before.before.before.before.before.before.before.before.before.before.before.before.requires.1 in
-    (omega (arith, c.before.before.before.before.before.before.before.before.before.before.before.before.before.before.before.before.before.before.requires.0), (q.0, _, onward-ready _ _ _ _ _ q.0 q.1 q.2 c.before.before.before.before.before.before.before.before.before.before.before.before.before.if1.false c.before.before.before.before.before.before.before.before.if2.false _ _ _ _ c.before.before.before.branch.ensures.0 c.before.before.before.branch.ensures.1 (c.before.before.before.branch.ensures.2 q.1 q.2.shown.text (trace-here _ _ _ _ _ q.0 q.1 q.2) (onward-room _ _ _ _ _ q.0 q.1 q.2 c.before.before.before.before.before.before.before.before.before.before.before.before.before.if1.false c.before.before.before.before.before.before.before.before.if2.false))))
+    (omega (arith, c.before.before.before.before.before.before.before.before.before.before.before.before.before.before.before.before.before.before.requires.0), (q.0, _, onward_ready _ _ _ _ _ q.0 q.1 q.2 c.before.before.before.before.before.before.before.before.before.before.before.before.before.if1.false c.before.before.before.before.before.before.before.before.if2.false _ _ _ _ c.before.before.before.branch.ensures.0 c.before.before.before.branch.ensures.1 (c.before.before.before.branch.ensures.2 q.1 q.2.shown.text (trace-here _ _ _ _ _ q.0 q.1 q.2) (onward_room _ _ _ _ _ q.0 q.1 q.2 c.before.before.before.before.before.before.before.before.before.before.before.before.before.if1.false c.before.before.before.before.before.before.before.before.if2.false))))
 
 trace-returns-3 : (t : ℕ) → trace-lts.Need-returns-3 (
   ring-reads.Asked,
@@ -438,8 +438,8 @@ trace-returns-3 : (t : ℕ) → trace-lts.Need-returns-3 (
 ) (trace-at t) trace.Post
 trace-returns-3 t c =
     λ W w T.
-    subst (Shows W.size _) (sym (onward-is _ _ _ _ _ W w T c.before.before.before.before.before.before.before.before.before.before.before.before.before.before.if1.false c.before.before.before.before.before.before.before.before.before.if2.false))
-    (c.finish.ensures W _ (onward-ready _ _ _ _ _ W w T c.before.before.before.before.before.before.before.before.before.before.before.before.before.before.if1.false c.before.before.before.before.before.before.before.before.before.if2.false _ _ _ _ c.before.before.before.before.branch.ensures.0 c.before.before.before.before.branch.ensures.1 (c.before.before.before.before.branch.ensures.2 w T.shown.text (trace-here _ _ _ _ _ W w T) (onward-room _ _ _ _ _ W w T c.before.before.before.before.before.before.before.before.before.before.before.before.before.before.if1.false c.before.before.before.before.before.before.before.before.before.if2.false))))
+    subst (Shows W.size _) (sym (onward_is _ _ _ _ _ W w T c.before.before.before.before.before.before.before.before.before.before.before.before.before.before.if1.false c.before.before.before.before.before.before.before.before.before.if2.false))
+    (c.finish.ensures W _ (onward_ready _ _ _ _ _ W w T c.before.before.before.before.before.before.before.before.before.before.before.before.before.before.if1.false c.before.before.before.before.before.before.before.before.before.if2.false _ _ _ _ c.before.before.before.before.branch.ensures.0 c.before.before.before.before.branch.ensures.1 (c.before.before.before.before.branch.ensures.2 w T.shown.text (trace-here _ _ _ _ _ W w T) (onward_room _ _ _ _ _ W w T c.before.before.before.before.before.before.before.before.before.before.before.before.before.before.if1.false c.before.before.before.before.before.before.before.before.before.if2.false))))
 
 pub +finish-trace-spec : {M : Type 1} → statement M
 +finish-trace-spec = close μ-finish μ-trace (λ t. finish-lts.spec (
