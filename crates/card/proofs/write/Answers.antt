@@ -20,7 +20,7 @@ pub overflow_add-length-2 : goal.overflow_add-length-2
 overflow_add-length-2 c = omega (arith, c.requires.0.atoms, bonds-few (arrays_of c.args.t) c.requires.0 _ c.bonds_length-bonds.ensures)
 
 pub returns-then-out-length : goal.returns-then-out-length
-returns-then-out-length c = card-short (arrays_of c.args.t) c.requires.0 _ c.bonds_length-bonds.ensures c.args.out.now c.if-out-length.true
+returns-then-out-length c = card-short (arrays_of c.args.t) c.requires.0 _ c.bonds_length-bonds.ensures c.args.out.now (omega arith)
 
 pub overflow_mul-n : goal.overflow_mul-n
 overflow_mul-n c = omega (arith, c.requires.0.atoms)

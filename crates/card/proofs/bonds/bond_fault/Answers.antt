@@ -24,9 +24,6 @@ pub returns-then-code-gt4 : goal.returns-then-code-gt4
 unfolding bond_tested
 returns-then-code-gt4 c = simp (lt-leb _ _ c.if-n-i.false, lt-leb _ _ c.if-n-j.false, ne_eqb _ _ c.if-i-j.false, ne_eqb _ _ c.if-code-eq0.false, lt-ltb _ _ c.if-code-gt4.true, or-true)
 
-pub code_of-requires : goal.code_of-requires
-code_of-requires c = c.requires c.args.a.0 c.if-n-i.false
-
 pub returns-then-code_of-ne0 : goal.returns-then-code_of-ne0
 unfolding bond_tested
 returns-then-code_of-ne0 c = simp (lt-leb _ _ c.if-n-i.false, lt-leb _ _ c.if-n-j.false, ne_eqb _ _ c.if-i-j.false, ne_eqb _ _ c.if-code-eq0.false, le-ltb _ _ c.if-code-gt4.false, ← c.code_of.ensures, ne_eqb _ _ c.if-code_of-ne0.true)
