@@ -11,9 +11,9 @@ pub slice_bounds-write-end : goal.slice_bounds-write-end
 slice_bounds-write-end c =
     let A = c.put_name-length.ensures in
     let b = c.requires in
-    sym (length-take-le c.put_name-length.result c.put_name-length.new.1.0 (omega (arith, A.end, A.long, b.room)))
+    sym (length-take-le c.put_name-length.result c.put_name-length.new.buffer (omega (arith, A.end, A.long, b.room)))
 
 pub returns : goal.returns
 returns c =
     let A = c.put_name-length.ensures in
-    subst (λ (l : List ℕ). Written l c.args.out.now c.write.new.1.0 c.write.result) A.is c.write.ensures
+    subst (λ (l : List ℕ). Written l c.args.out.now c.write.new.out c.write.result) A.is c.write.ensures

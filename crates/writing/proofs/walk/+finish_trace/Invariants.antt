@@ -1,4 +1,4 @@
-use Rattle.std.proofs.Common.{◌-◌, ◌≡◌, ℕ, suc, ◌+◌, ◌*◌, ◌≤◌, get_or, take}
+use Rattle.std.proofs.Common.{◌-◌, ◌≡◌, suc, ◌+◌, ◌*◌, ◌≤◌, get_or, take}
 use Rattle.molecule.specs.Molecule.{Molecule}
 use Rattle.sling.specs.Walk.{Written, neighbours_at, traces}
 use Rattle.sling.specs.Walk.{finish as finish-of}
