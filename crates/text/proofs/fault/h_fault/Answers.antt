@@ -3,14 +3,11 @@ use mathlib.Core.Path.{◌∙◌, sym}
 use mathlib.Core.Bool.{or-true}
 use Rattle.text.proofs.fault.h_fault.Goals as goal
 
--- src/fault.rt:111:9
 pub returns-then-wrong_h : goal.returns-then-wrong_h
 returns-then-wrong_h c = sym (rw (sym c.wrong_h.ensures ∙ c.if-wrong_h.true))
 
--- src/fault.rt:114:9
 pub returns-then-wrong_h-2 : goal.returns-then-wrong_h-2
 returns-then-wrong_h-2 c = sym (rw (sym c.wrong_h-2.ensures ∙ c.if-wrong_h-2.true, or-true))
 
--- src/fault.rt:107:1
 pub returns : goal.returns
 returns c = sym (rw (sym c.wrong_h.ensures ∙ c.if-wrong_h.false, sym c.wrong_h-2.ensures ∙ c.if-wrong_h-2.false))

@@ -2,10 +2,8 @@
 use mathlib.Core.Path.{◌∙◌, sym}
 use Rattle.text.proofs.fault.is_pair.Goals as goal
 
--- src/fault.rt:69:9
 pub returns-then-runs : goal.returns-then-runs
 returns-then-runs c = sym (simp (sym c.runs.ensures ∙ c.if-runs.true))
 
--- src/fault.rt:65:1
 pub returns : goal.returns
 returns c = c.runs-2.ensures ∙ sym (simp (sym c.runs.ensures ∙ c.if-runs.false))

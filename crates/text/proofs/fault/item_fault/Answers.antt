@@ -42,9 +42,8 @@ pub returns-in-Atom : goal.returns-in-Atom
 returns-in-Atom c =
     λ m H. let a = c.args in
     let st : State = state_of a.kinds.now a.ups.now a.one.now a.two.now m a.hydrogens.now a.degrees.now a.t in
-    let g = c.item-1.given.0 in
-    c.atom_fault.ensures ∙ ap (λ (e : End). atom_fault g.0 g.1.0 e a.t) c.end_at-from.ensures ∙ atom-judged st H c.if-t-eq0.false g.0 g.1.0
-    ∙ ap (λ (i : Item). item_fault (view_of st) (item_of i)) (sym c.item-1.given.1)
+    c.atom_fault.ensures ∙ ap (λ (e : End). atom_fault c.in-Atom.code c.in-Atom.kind e a.t) c.end_at-from.ensures ∙ atom-judged st H c.if-t-eq0.false c.in-Atom.code c.in-Atom.kind
+    ∙ ap (λ (i : Item). item_fault (view_of st) (item_of i)) (sym c.in-Atom.is)
 
 pub returns-in-Reference : goal.returns-in-Reference
 returns-in-Reference c =
@@ -52,13 +51,12 @@ returns-in-Reference c =
     let st : State = state_of a.kinds.now a.ups.now a.one.now a.two.now m a.hydrogens.now a.degrees.now a.t in
     let p = c.named.ensures (view_of st) (view-attached a.kinds.now a.ups.now a.one.now a.two.now m a.hydrogens.now a.degrees.now a.t H.tallied) in
     c.reference_fault.ensures ∙ ap (reference_fault a.t.n) p ∙ reference-judged st H c.if-t-eq0.false _ ∙ reference-named (view_of st) _
-    ∙ ap (λ (i : Item). item_fault (view_of st) (item_of i)) (sym c.item-in-Reference-1.given.1)
+    ∙ ap (λ (i : Item). item_fault (view_of st) (item_of i)) (sym c.in-Reference.is)
 
 pub returns-in-Ring : goal.returns-in-Ring
 returns-in-Ring c =
     λ m H. let a = c.args in
     let st : State = state_of a.kinds.now a.ups.now a.one.now a.two.now m a.hydrogens.now a.degrees.now a.t in
     let p = c.named-to.ensures (view_of st) (view-attached a.kinds.now a.ups.now a.one.now a.two.now m a.hydrogens.now a.degrees.now a.t H.tallied) in
-    let code = c.item-in-Ring-1.given.0.0 in
-    c.ring_fault.ensures ∙ ring-judged st H c.if-t-eq0.false code c.named-to.result.0
-    ∙ ap (λ (x : ℕ). item_fault (view_of st) (ring code (at x))) p ∙ ring-named (view_of st) _ _ ∙ ap (λ (i : Item). item_fault (view_of st) (item_of i)) (sym c.item-in-Ring-1.given.1)
+    c.ring_fault.ensures ∙ ring-judged st H c.if-t-eq0.false c.in-Ring.code c.named-to.result.0
+    ∙ ap (λ (x : ℕ). item_fault (view_of st) (ring c.in-Ring.code (at x))) p ∙ ring-named (view_of st) _ _ ∙ ap (λ (i : Item). item_fault (view_of st) (item_of i)) (sym c.in-Ring.is)

@@ -6,4 +6,4 @@ use Rattle.text.specs.Judging.{opening_fault}
 use Rattle.text.proofs.fault.opening_fault.Goals as goal
 
 pub returns-in-Atom : goal.returns-in-Atom
-returns-in-Atom c = c.first_fault.ensures ∙ ap (λ (i : Item). opening_fault (item_of i)) (sym c.item-1.given.1)
+returns-in-Atom c = c.first_fault.ensures ∙ ap (λ (i : Item). opening_fault (item_of i)) (sym c.in-Atom.is)

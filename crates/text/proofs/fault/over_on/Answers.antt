@@ -2,10 +2,8 @@
 use borrow.Author.Tests.{lt-ltb, le-ltb}
 use Rattle.text.proofs.fault.over_on.Goals as goal
 
--- src/fault.rt:50:9
 pub returns-then-hydrogens-gt-MAX_HYDROGENS_ON : goal.returns-then-hydrogens-gt-MAX_HYDROGENS_ON
 returns-then-hydrogens-gt-MAX_HYDROGENS_ON c = simp (lt-ltb _ _ c.if-hydrogens-gt-MAX_HYDROGENS_ON.true)
 
--- src/fault.rt:46:1
 pub returns : goal.returns
 returns c = simp (le-ltb _ _ c.if-hydrogens-gt-MAX_HYDROGENS_ON.false)

@@ -8,11 +8,9 @@ use Rattle.text.specs.Judging.{pair_in}
 use Rattle.text.proofs.FaultLaws.{some-pass_below, none-paired, still_none}
 use Rattle.text.proofs.fault.paired.Goals as goal
 
--- src/fault.rt:88:5
 pub loop-i-init : goal.loop-i-init
 loop-i-init c = (omega arith, none-paired _)
 
--- src/fault.rt:90:13
 pub returns-then-is_pair : goal.returns-then-is_pair
 returns-then-is_pair c =
     let a = c.args in
@@ -21,7 +19,6 @@ returns-then-is_pair c =
     let f = simp (c.wide_place.ensures, c.wide_place-in-loop-i.ensures) at e in
     sym (some-pass_below a.drawn _ L.i c.loop-i-test.true (sym f ∙ c.if-is_pair.true))
 
--- src/fault.rt:88:5
 pub loop-i-preserved : goal.loop-i-preserved
 loop-i-preserved c =
     let a = c.args in
@@ -30,7 +27,6 @@ loop-i-preserved c =
     let f = simp (c.wide_place.ensures, c.wide_place-in-loop-i.ensures) at e in
     (omega arith, still_none L.i _ L.invariant.1 (sym f ∙ c.if-is_pair.false))
 
--- src/fault.rt:77:1
 pub returns : goal.returns
 returns c =
     let a = c.args in

@@ -2,10 +2,8 @@
 use borrow.Author.Tests.{eq-eqb, ne_eqb}
 use Rattle.text.proofs.fault.runs.Goals as goal
 
--- src/fault.rt:59:9
 pub returns-then-one-from : goal.returns-then-one-from
 returns-then-one-from c = simp (ne_eqb _ _ c.if-one-from.true)
 
--- src/fault.rt:55:1
 pub returns : goal.returns
 returns c = simp (eq-eqb _ _ c.if-one-from.false)

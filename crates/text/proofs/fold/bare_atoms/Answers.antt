@@ -1,5 +1,5 @@
 -- The arrays have the places passed that have no H, in their order, and no row has anything.
-use Prim.Native.Nat.{ℕ, ◌≤◌, ◌<◌, ◌-◌}
+use Prim.Native.Nat.{ℕ, ◌≤◌, ◌<◌}
 use mathlib.Core.Path.{◌≡◌, ◌∙◌, sym, subst}
 use native.Mathlib.Omega.{arith}
 use native.Mathlib.Nat.{not-suc-le-zero}
@@ -10,13 +10,12 @@ use Rattle.text.proofs.StateLaws.{view_places, view-kind}
 use Rattle.text.proofs.FoldLaws.{Heavies, heavies_start, heavies_step, heavies_bare, bare-room, bare-small, numbered_more}
 use borrow.Author.Rules.{rules}
 use Rattle.text.proofs.fold.bare_atoms.Goals.{At-loop-p}
-use Rattle.text.proofs.fold.bare_atoms.Goals.{At-loop-p}
 use Rattle.text.proofs.fold.bare_atoms.Goals as goal
 
 -- the atoms so far are few enough, and fewer where one more is to come
 few : (c : At-loop-p) → c.loop-p.n ≤ 64
 few c =
-    let st = c.args.self in
+    let st = c.args.st in
     let H = c.requires in
     omega (
       arith,
@@ -24,9 +23,9 @@ few c =
       bare-small (view_of st) (reached-reader (view_of st) H.reached).tidy (reached-room (view_of st) H.reached) c.loop-p.p (omega (arith, c.loop-p.invariant.0, view_places st H.tallied)),
     )
 
-room : (c : At-loop-p) → c.loop-p.p < c.args.self.n → (get_or c.args.self.kinds c.loop-p.p 0 ≡ 0 → ⊥) → c.loop-p.n < 64
+room : (c : At-loop-p) → c.loop-p.p < c.args.st.n → (get_or c.args.st.kinds c.loop-p.p 0 ≡ 0 → ⊥) → c.loop-p.n < 64
 room c h n =
-    let st = c.args.self in
+    let st = c.args.st in
     let H = c.requires in
     omega (
       arith,
@@ -36,7 +35,7 @@ room c h n =
     )
 
 pub loop-p-init : goal.loop-p-init
-loop-p-init c = (omega arith, heavies_start (view_of c.args.self), search rules, λ q h. absurd (not-suc-le-zero h))
+loop-p-init c = (omega arith, heavies_start (view_of c.args.st), search rules, λ q h. absurd (not-suc-le-zero h))
 
 pub narrow-requires : goal.narrow-requires
 narrow-requires c = omega (arith, few (goal.at.narrow-requires c).At-loop-p)
@@ -61,7 +60,7 @@ loop-p-smaller c = omega (arith, c.loop-p-test.true)
 
 pub loop-p-preserved : goal.loop-p-preserved
 loop-p-preserved c =
-    let st = c.args.self in
+    let st = c.args.st in
     let t = c.requires.tallied in
     let L = c.loop-p in
     let h : L.p < st.n = c.loop-p-test.true in (
@@ -73,7 +72,7 @@ loop-p-preserved c =
 
 pub returns : goal.returns
 returns c =
-    let st = c.args.self in
+    let st = c.args.st in
     let L = c.loop-p in
     let e : L.p ≡ st.n = omega (arith, c.loop-p-test.false, L.invariant.0) in
     let B = heavies_bare (view_of st) st.n L.n L.kinds L.hydrogens (few (goal.at.returns c).At-loop-p) (subst (λ (i : ℕ). Heavies (view_of st) i L.n L.kinds L.hydrogens) e L.invariant.1) in

@@ -1,9 +1,7 @@
 -- The table that the rows make so far is tidy and has the bonds passed, those to an H left out.
-use Prim.Native.Nat.{ℕ, ◌<◌, ◌-◌}
-use mathlib.Core.List.{List}
+use Prim.Native.Nat.{ℕ, ◌<◌}
 use mathlib.Core.Path.{sym, subst}
 use native.Mathlib.Omega.{arith}
-use Rattle.table.specs.declared.Table.{Table}
 use Rattle.text.specs.Holding.{view_of}
 use Rattle.text.specs.Folding.{molecule_of, BareTo}
 use Rattle.text.proofs.StateLaws.{view_places, view-bonds}
@@ -11,20 +9,17 @@ use Rattle.text.proofs.LinkLaws.{linked-start, linked-end, low-one, low-two, fol
 use Rattle.text.proofs.fold.folded.Goals.{After-wide-two}
 use Rattle.text.proofs.fold.folded.Goals as goal
 
-abbrev made : (n : ℕ) (kinds hydrogens degrees near codes : List ℕ) → Table
-made n kinds hydrogens degrees near codes = record { n = n; kinds = kinds; hydrogens = hydrogens; degrees = degrees; near = near; codes = codes }
-
 -- the two places of the bond are there
 low : (c : After-wide-two) → (c.wide-one.result < 192) × (c.wide-two.result < 192)
 low c =
     (
-      omega (arith, c.requires.tallied.places, low-one c.args.self c.requires c.loop-k.k c.loop-k-test.true _ _ c.wide-one.ensures.0 c.wide-two.ensures.0 c.bare_atoms-atoms.result.numbers c.loop-k.invariant.4),
-      omega (arith, c.requires.tallied.places, low-two c.args.self c.requires c.loop-k.k c.loop-k-test.true _ _ c.wide-one.ensures.0 c.wide-two.ensures.0 c.bare_atoms-atoms.result.numbers c.loop-k.invariant.4),
+      omega (arith, c.requires.tallied.places, low-one c.args.st c.requires c.loop-k.k c.loop-k-test.true _ _ c.wide-one.ensures.0 c.wide-two.ensures.0 c.bare_atoms-atoms.result.numbers c.loop-k.invariant.4),
+      omega (arith, c.requires.tallied.places, low-two c.args.st c.requires c.loop-k.k c.loop-k-test.true _ _ c.wide-one.ensures.0 c.wide-two.ensures.0 c.bare_atoms-atoms.result.numbers c.loop-k.invariant.4),
     )
 
 pub loop-k-init : goal.loop-k-init
 loop-k-init c =
-    let st = c.args.self in
+    let st = c.args.st in
     let r = c.bare_atoms-atoms.result in
     let B = c.bare_atoms-atoms.ensures in (
       omega arith,
@@ -57,7 +52,7 @@ bounds-st-k-in-loop-k-2 c = omega (arith, c.loop-k-test.true, c.requires.tallied
 
 pub put_link-requires : goal.put_link-requires
 put_link-requires c =
-    fold_fits c.args.self c.requires c.loop-k.k c.loop-k-test.true _ _ c.wide-one.ensures.0 c.wide-two.ensures.0 c.bare_atoms-atoms.result.numbers c.loop-k.invariant.4 _ c.loop-k.invariant.1 c.loop-k.invariant.2
+    fold_fits c.args.st c.requires c.loop-k.k c.loop-k-test.true _ _ c.wide-one.ensures.0 c.wide-two.ensures.0 c.bare_atoms-atoms.result.numbers c.loop-k.invariant.4 _ c.loop-k.invariant.1 c.loop-k.invariant.2
 
 pub overflow_add-k : goal.overflow_add-k
 overflow_add-k c = omega (arith, c.loop-k-test.true, c.requires.tallied.drawn)
@@ -67,9 +62,9 @@ loop-k-smaller c = omega (arith, c.loop-k-test.true)
 
 pub loop-k-preserved : goal.loop-k-preserved
 loop-k-preserved c =
-    let w = fold_step c.args.self c.requires c.loop-k.k c.loop-k-test.true _ _ c.wide-one.ensures.0 c.wide-two.ensures.0 c.bare_atoms-atoms.result.numbers c.loop-k.invariant.4 _ c.loop-k.invariant.1 c.loop-k.invariant.2 _ c.put_link.ensures in
+    let w = fold_step c.args.st c.requires c.loop-k.k c.loop-k-test.true _ _ c.wide-one.ensures.0 c.wide-two.ensures.0 c.bare_atoms-atoms.result.numbers c.loop-k.invariant.4 _ c.loop-k.invariant.1 c.loop-k.invariant.2 _ c.put_link.ensures in
     (omega (arith, c.loop-k-test.true), w.0, w.1, c.loop-k.invariant.3, c.loop-k.invariant.4)
 
 pub returns : goal.returns
 returns c =
-    (c.loop-k.invariant.1, linked-end (view_of c.args.self) _ c.loop-k.k (omega (arith, c.loop-k-test.false, c.loop-k.invariant.0, view-bonds c.args.self)) c.loop-k.invariant.2)
+    (c.loop-k.invariant.1, linked-end (view_of c.args.st) _ c.loop-k.k (omega (arith, c.loop-k-test.false, c.loop-k.invariant.0, view-bonds c.args.st)) c.loop-k.invariant.2)

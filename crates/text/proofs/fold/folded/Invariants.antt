@@ -2,11 +2,16 @@
 use Prim.Native.Nat.{ℕ, ◌≤◌, ◌<◌, ◌-◌}
 use mathlib.Core.Path.{◌≡◌}
 use lib.ListN.{length, get_or}
+use mathlib.Core.List.{List}
+use Rattle.table.specs.declared.Table.{Table}
 use Rattle.table.specs.View.{TidyTable}
 use Rattle.text.specs.Holding.{view_of}
 use Rattle.text.specs.Folding.{molecule_of, heavies_to}
 use Rattle.text.proofs.LinkLaws.{LinkedTo}
 use Rattle.text.proofs.fold.folded.Given as goal
+
+abbrev made : (n : ℕ) (kinds hydrogens degrees near codes : List ℕ) → Table
+made n kinds hydrogens degrees near codes = record { n = n; kinds = kinds; hydrogens = hydrogens; degrees = degrees; near = near; codes = codes }
 
 abbrev pub invariant-loop-k : goal.invariant-loop-k
 invariant-loop-k l =

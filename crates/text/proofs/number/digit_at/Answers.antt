@@ -4,12 +4,10 @@ use borrow.Author.Tests.{lt-ltb, le-ltb, le-leb, lt-leb}
 use Rattle.text.specs.Scanning.{digit_at}
 use Rattle.text.proofs.number.digit_at.Goals as goal
 
--- src/number.rt:20:13
 pub returns-then-b-lt48 : goal.returns-then-b-lt48
 unfolding digit_at
 returns-then-b-lt48 c = record { is = simp (lt-ltb _ _ c.if-at-text.true, lt-leb _ _ c.if-b-lt48.true); small = omega arith }
 
--- src/number.rt:23:13
 pub returns-then-b-le57 : goal.returns-then-b-le57
 unfolding digit_at
 returns-then-b-le57 c =
@@ -18,7 +16,6 @@ returns-then-b-le57 c =
       small = omega arith;
     }
 
--- src/number.rt:14:1
 pub returns-else-b-le57 : goal.returns-else-b-le57
 unfolding digit_at
 returns-else-b-le57 c =
@@ -27,7 +24,6 @@ returns-else-b-le57 c =
       small = omega arith;
     }
 
--- src/number.rt:14:1
 pub returns-else-at-text : goal.returns-else-at-text
 unfolding digit_at
 returns-else-at-text c = record { is = simp (le-ltb _ _ c.if-at-text.false); small = omega arith }

@@ -3,11 +3,9 @@ use native.Mathlib.Omega.{arith}
 use Rattle.text.proofs.NumberLaws.{none-0, num-1, none_2, num-2, num-3, none-4}
 use Rattle.text.proofs.number.number_at.Goals as goal
 
--- src/number.rt:36:9
 pub returns-then-a-eq10 : goal.returns-then-a-eq10
 returns-then-a-eq10 c = record { is = none-0 _ _ _ c.digit_at-a.ensures.is c.if-a-eq10.true; small = tt }
 
--- src/number.rt:40:9
 pub returns-then-b-eq10 : goal.returns-then-b-eq10
 returns-then-b-eq10 c =
     record {
@@ -15,7 +13,6 @@ returns-then-b-eq10 c =
       small = (omega arith, omega arith);
     }
 
--- src/number.rt:43:9
 pub returns-then-a-eq0 : goal.returns-then-a-eq0
 returns-then-a-eq0 c =
     record {
@@ -23,7 +20,6 @@ returns-then-a-eq0 c =
       small = tt;
     }
 
--- src/number.rt:47:9
 pub returns-then-c-eq10 : goal.returns-then-c-eq10
 returns-then-c-eq10 c =
     record {
@@ -32,7 +28,6 @@ returns-then-c-eq10 c =
       small = (omega arith, omega arith);
     }
 
--- src/number.rt:54:9
 pub returns-then-d-eq10 : goal.returns-then-d-eq10
 returns-then-d-eq10 c =
     record {
@@ -41,7 +36,6 @@ returns-then-d-eq10 c =
       small = (omega arith, omega arith);
     }
 
--- src/number.rt:30:1
 pub returns : goal.returns
 returns c =
     record {

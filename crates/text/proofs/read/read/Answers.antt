@@ -29,7 +29,7 @@ returns-in_default c =
     let r = c.refused in
     record {
       is = ap₂ (λ (f p : ℕ). judged f p (view_of r.result.state) finished) r.ensures.0 r.ensures.1
-          ∙ run-broken _ L.at c.loop-at-test.true (view_of st) (sym c.scan.ensures.is ∙ ap (scanned_of L.at) c.enum_told-1.given.1) ∙ L.invariant.1;
+          ∙ run-broken _ L.at c.loop-at-test.true (view_of st) (sym c.in_default.ensures.is) ∙ L.invariant.1;
       held = r.ensures.2;
     }
 
@@ -43,13 +43,13 @@ pub returns-then-fault-ne0 : goal.returns-then-fault-ne0
 returns-then-fault-ne0 c =
     let L = c.loop-at in
     let st : State = state_of L.kinds L.ups L.one L.two L.codes L.hydrogens L.degrees L.t in
-    let g = subst (Sane L.at) c.scanned-1.given.1 c.scan.ensures.sane in
+    let g = c.in-Got.ensures.sane in
     let R = c.resolved-item in
     let e = R.ensures (view_of st) (view-attached L.kinds L.ups L.one L.two L.codes L.hydrogens L.degrees L.t L.invariant.0.tallied) in
     let r = c.refused-then-fault-ne0 in
     record {
       is = ap₂ (λ (f p : ℕ). judged f p (view_of r.result.state) finished) r.ensures.0 r.ensures.1
-          ∙ run-fault _ L.at c.loop-at-test.true _ _ g.0 (sym c.scan.ensures.is ∙ ap (scanned_of L.at) c.scanned-1.given.1)
+          ∙ run-fault _ L.at c.loop-at-test.true _ _ g.0 (sym c.in-Got.ensures.is)
           (view_of st) (view_of r.result.state) _ (c.item_fault-fault.ensures L.codes L.invariant.0 ∙ resolved-fault (view_of st) _ _ e) c.if-fault-ne0.true ∙ L.invariant.1;
       held = r.ensures.2;
     }
@@ -57,7 +57,7 @@ returns-then-fault-ne0 c =
 pub after-t-requires : goal.after-t-requires
 after-t-requires c =
     let L = c.loop-at in
-    let g = subst (Sane L.at) c.scanned-1.given.1 c.scan.ensures.sane in
+    let g = c.in-Got.ensures.sane in
     let st : State = state_of L.kinds L.ups L.one L.two L.codes L.hydrogens L.degrees L.t in
     let R = c.resolved-item in
     let e = R.ensures (view_of st) (view-attached L.kinds L.ups L.one L.two L.codes L.hydrogens L.degrees L.t L.invariant.0.tallied) in
@@ -67,21 +67,21 @@ after-t-requires c =
 pub loop-at-smaller : goal.loop-at-smaller
 loop-at-smaller c =
     let L = c.loop-at in
-    let g = subst (Sane L.at) c.scanned-1.given.1 c.scan.ensures.sane in
+    let g = c.in-Got.ensures.sane in
     omega (arith, g.0, c.loop-at-test.true)
 
 pub loop-at-preserved : goal.loop-at-preserved
 loop-at-preserved c =
     let L = c.loop-at in
     let st : State = state_of L.kinds L.ups L.one L.two L.codes L.hydrogens L.degrees L.t in
-    let g = subst (Sane L.at) c.scanned-1.given.1 c.scan.ensures.sane in
+    let g = c.in-Got.ensures.sane in
     let R = c.resolved-item in
     let e = R.ensures (view_of st) (view-attached L.kinds L.ups L.one L.two L.codes L.hydrogens L.degrees L.t L.invariant.0.tallied) in
     let s = c.args.text.now in
-    let next = c.scanned-1.given.0.1.0 in (
+    let next = c.in-Got.next in (
       c.after-t.ensures.held,
       ap (run (tokens (drop next s) 0 next)) (c.after-t.ensures.is ∙ resolved-after (view_of st) _ _ e)
-          ∙ run-next s L.at c.loop-at-test.true _ next g.0 (sym c.scan.ensures.is ∙ ap (scanned_of L.at) c.scanned-1.given.1)
+          ∙ run-next s L.at c.loop-at-test.true _ next g.0 (sym c.in-Got.ensures.is)
           (view_of st) (sym (c.item_fault-fault.ensures L.codes L.invariant.0 ∙ resolved-fault (view_of st) _ _ e) ∙ c.if-fault-ne0.false)
           ∙ L.invariant.1,
     )

@@ -3,6 +3,5 @@ use mathlib.Core.Path.{sym, ap}
 use Rattle.text.specs.Scanning.{reference_of}
 use Rattle.text.proofs.scan.as_reference.Goals as goal
 
--- src/scan.rt:68:1
 pub returns-in-Found : goal.returns-in-Found
-returns-in-Found c = ap reference_of (sym c.a-1.given.1)
+returns-in-Found c = ap reference_of (sym c.in-Found.is)

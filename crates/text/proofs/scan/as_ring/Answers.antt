@@ -3,6 +3,5 @@ use mathlib.Core.Path.{sym, ap}
 use Rattle.text.specs.Scanning.{ring_of}
 use Rattle.text.proofs.scan.as_ring.Goals as goal
 
--- src/scan.rt:77:1
 pub returns-in-Found : goal.returns-in-Found
-returns-in-Found c = ap (ring_of _) (sym c.a-1.given.1)
+returns-in-Found c = ap (ring_of _) (sym c.in-Found.is)

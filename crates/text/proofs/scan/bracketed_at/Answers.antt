@@ -5,22 +5,18 @@ use borrow.Author.Tests.{not-true, not-false, eq-eqb, ne_eqb}
 use Rattle.text.proofs.ScanLaws.{bracket_short, bracket_bad, bracket_good}
 use Rattle.text.proofs.scan.bracketed_at.Goals as goal
 
--- src/scan.rt:92:9
 pub returns-then-text-at-le3 : goal.returns-then-text-at-le3
 returns-then-text-at-le3 c = bracket_short _ _ _ c.requires.1 c.requires.2 c.requires.0 c.if-text-at-le3.true
 
--- src/scan.rt:97:9
 pub returns-then-not-is_capital : goal.returns-then-not-is_capital
 returns-then-not-is_capital c =
     bracket_bad _ _ _ c.requires.1 c.requires.2 (omega arith) (simp (sym c.is_capital.ensures ∙ not-true _ c.if-not-is_capital.true))
 
--- src/scan.rt:100:9
 pub returns-then-not-is_small : goal.returns-then-not-is_small
 returns-then-not-is_small c =
     bracket_bad _ _ _ c.requires.1 c.requires.2 (omega arith)
     (simp (sym c.is_capital.ensures ∙ not-false _ c.if-not-is_capital.false, sym c.is_small.ensures ∙ not-true _ c.if-not-is_small.true))
 
--- src/scan.rt:103:9
 pub returns-then-text-at-ne41 : goal.returns-then-text-at-ne41
 returns-then-text-at-ne41 c =
     bracket_bad _ _ _ c.requires.1 c.requires.2 (omega arith)
@@ -30,7 +26,6 @@ returns-then-text-at-ne41 c =
       ne_eqb _ _ c.if-text-at-ne41.true,
     ))
 
--- src/scan.rt:87:1
 pub returns : goal.returns
 returns c =
     bracket_good _ _ _ c.requires.1 c.requires.2 (omega arith) _ c.kind_of_letters-kind.ensures

@@ -2,10 +2,8 @@
 use borrow.Author.Tests.{le-leb, lt-leb}
 use Rattle.text.proofs.scan.is_capital.Goals as goal
 
--- src/scan.rt:15:9
 pub returns-then-b-lt65 : goal.returns-then-b-lt65
 returns-then-b-lt65 c = simp (lt-leb _ _ c.if-b-lt65.true)
 
--- src/scan.rt:11:1
 pub returns : goal.returns
 returns c = simp (le-leb _ _ c.if-b-lt65.false)

@@ -3,15 +3,12 @@ use native.Mathlib.Omega.{arith}
 use borrow.Author.Tests.{eq-eqb, ne_eqb}
 use Rattle.text.proofs.scan.mark_of.Goals as goal
 
--- src/scan.rt:44:9
 pub returns-then-b-eq61 : goal.returns-then-b-eq61
 returns-then-b-eq61 c = record { is = simp (eq-eqb _ _ c.if-b-eq61.true); some = omega arith; most = omega arith }
 
--- src/scan.rt:47:9
 pub returns-then-b-eq42 : goal.returns-then-b-eq42
 returns-then-b-eq42 c = record { is = simp (ne_eqb _ _ c.if-b-eq61.false, eq-eqb _ _ c.if-b-eq42.true); some = omega arith; most = omega arith }
 
--- src/scan.rt:50:9
 pub returns-then-b-eq60 : goal.returns-then-b-eq60
 returns-then-b-eq60 c =
     record {
@@ -20,7 +17,6 @@ returns-then-b-eq60 c =
       most = omega arith;
     }
 
--- src/scan.rt:40:1
 pub returns : goal.returns
 returns c =
     record {

@@ -3,10 +3,8 @@ use mathlib.Core.Path.{◌∙◌}
 use Rattle.text.proofs.ScanLaws.{small-out, small-in}
 use Rattle.text.proofs.scan.small_at.Goals as goal
 
--- src/scan.rt:34:9
 pub returns-then-text-at : goal.returns-then-text-at
 returns-then-text-at c = small-out _ _ c.if-text-at.true
 
--- src/scan.rt:30:1
 pub returns : goal.returns
 returns c = c.is_small.ensures ∙ small-in _ _ c.if-text-at.false

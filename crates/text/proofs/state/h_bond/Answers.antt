@@ -4,10 +4,8 @@ use native.Mathlib.Omega.{arith}
 use borrow.Author.Tests.{eq-eqb, ne_eqb}
 use Rattle.text.proofs.state.h_bond.Goals as goal
 
--- src/state.rt:89:9
 pub returns-then-one-eq0 : goal.returns-then-one-eq0
 returns-then-one-eq0 c = record { is = simp (eq-eqb _ _ c.if-one-eq0.true); small = omega arith }
 
--- src/state.rt:85:1
 pub returns : goal.returns
 returns c = record { is = c.h_bit.ensures.is ∙ simp (ne_eqb _ _ c.if-one-eq0.false); small = c.h_bit.ensures.small }

@@ -9,8 +9,8 @@ pub climbed-requires : goal.climbed-requires
 climbed-requires c = c.requires
 
 pub returns-in-At : goal.returns-in-At
-returns-in-At c = λ s a. ap (λ (g : Target). place_of s (target_of g)) (sym c.target-1.given.1)
+returns-in-At c = λ s a. ap (λ (g : Target). place_of s (target_of g)) (sym c.in-At.is)
 
 pub returns-in-Up : goal.returns-in-Up
 returns-in-Up c =
-    λ s a. c.climbed.ensures s a ∙ ap (climb s c.target-in-Up-1.given.0.0) (sym a.cursor) ∙ ap (λ (g : Target). place_of s (target_of g)) (sym c.target-in-Up-1.given.1)
+    λ s a. c.climbed.ensures s a ∙ ap (climb s c.in-Up.steps) (sym a.cursor) ∙ ap (λ (g : Target). place_of s (target_of g)) (sym c.in-Up.is)

@@ -15,10 +15,10 @@ pub named-place-requires-in-Ring : goal.named-place-requires-in-Ring
 named-place-requires-in-Ring c = c.requires c.if-t-eq0.false
 
 pub returns-in-Atom : goal.returns-in-Atom
-returns-in-Atom c = λ s A. sym (rw (ne_eqb _ _ (λ z. c.if-t-eq0.false (sym A.places ∙ z)), c.item-1.given.1))
+returns-in-Atom c = λ s A. sym (rw (ne_eqb _ _ (λ z. c.if-t-eq0.false (sym A.places ∙ z)), c.in-Atom.is))
 
 pub returns-in-Reference : goal.returns-in-Reference
-returns-in-Reference c = λ s A. ap (λ (p : ℕ). reference (at p)) (c.named-place.ensures s A) ∙ sym (rw (ne_eqb _ _ (λ z. c.if-t-eq0.false (sym A.places ∙ z)), c.item-in-Reference-1.given.1))
+returns-in-Reference c = λ s A. ap (λ (p : ℕ). reference (at p)) (c.named-place.ensures s A) ∙ sym (rw (ne_eqb _ _ (λ z. c.if-t-eq0.false (sym A.places ∙ z)), c.in-Reference.is))
 
 pub returns-in-Ring : goal.returns-in-Ring
-returns-in-Ring c = λ s A. ap (λ (p : ℕ). ring c.item-in-Ring-1.given.0.0 (at p)) (c.named-place-in-Ring.ensures s A) ∙ sym (rw (ne_eqb _ _ (λ z. c.if-t-eq0.false (sym A.places ∙ z)), c.item-in-Ring-1.given.1))
+returns-in-Ring c = λ s A. ap (λ (p : ℕ). ring c.in-Ring.code (at p)) (c.named-place-in-Ring.ensures s A) ∙ sym (rw (ne_eqb _ _ (λ z. c.if-t-eq0.false (sym A.places ∙ z)), c.in-Ring.is))
