@@ -11,11 +11,10 @@ use Rattle.text.proofs.fold.folded.Goals as goal
 
 -- the two places of the bond are there
 low : (c : After-wide-two) → (c.wide-one.result < 192) × (c.wide-two.result < 192)
-low c =
-    (
-      omega (arith, c.requires.tallied.places, low-one c.args.st c.requires c.loop-k.k c.loop-k-test.true _ _ c.wide-one.ensures.0 c.wide-two.ensures.0 c.bare_atoms-atoms.result.numbers c.loop-k.invariant.4),
-      omega (arith, c.requires.tallied.places, low-two c.args.st c.requires c.loop-k.k c.loop-k-test.true _ _ c.wide-one.ensures.0 c.wide-two.ensures.0 c.bare_atoms-atoms.result.numbers c.loop-k.invariant.4),
-    )
+low c = (
+  omega (arith, c.requires.tallied.places, low-one c.args.st c.requires c.loop-k.k c.loop-k-test.true _ _ c.wide-one.ensures.0 c.wide-two.ensures.0 c.bare_atoms-atoms.result.numbers c.loop-k.invariant.4),
+  omega (arith, c.requires.tallied.places, low-two c.args.st c.requires c.loop-k.k c.loop-k-test.true _ _ c.wide-one.ensures.0 c.wide-two.ensures.0 c.bare_atoms-atoms.result.numbers c.loop-k.invariant.4),
+)
 
 pub loop-k-init : goal.loop-k-init
 loop-k-init c =

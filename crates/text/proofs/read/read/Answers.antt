@@ -1,13 +1,11 @@
 -- What is left of the text, read on from the state held, comes to what the whole text comes to from the start.
-use Prim.Native.Nat.{ℕ, ◌-◌}
+use Prim.Native.Nat.{ℕ}
 use mathlib.Core.Path.{◌∙◌, sym, ap, ap₂, subst}
 use native.Mathlib.Omega.{arith}
 use lib.ListN.{drop}
-use Rattle.sling.specs.Reading as rules
 use Rattle.sling.specs.Scanned.{tokens}
 use Rattle.sling.specs.Faults.{finished, judged, run}
 use Rattle.text.specs.declared.state.State.{State}
-use Rattle.text.specs.Scanning.{scanned_of, Sane}
 use Rattle.text.specs.Holding.{view_of}
 use Rattle.text.specs.Changing.{state_of}
 use Rattle.text.specs.Outcomes.{Reads}

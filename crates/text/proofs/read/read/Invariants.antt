@@ -7,7 +7,6 @@ use Rattle.sling.specs.Scanned.{tokens}
 use Rattle.sling.specs.Faults.{run}
 use Rattle.text.specs.Holding.{view_of, Held}
 use Rattle.text.specs.Changing.{state_of}
-use borrow.Author.Rules.{rules}
 use Rattle.text.proofs.read.read.Given as goal
 
 abbrev pub invariant-loop-at : goal.invariant-loop-at

@@ -1,6 +1,5 @@
 -- One law of ScanLaws for each return, by the byte at the offset.
 use mathlib.Core.Path.{◌∙◌, sym, subst}
-use borrow.Author.Tests.{not-true, not-false}
 use Rattle.text.specs.Scanning.{Bodies}
 use Rattle.text.proofs.ScanLaws.{body-out, body-ring, body-bracket, body-bad, body-letter}
 use Rattle.text.proofs.scan.body_at.Goals as goal
@@ -22,14 +21,14 @@ returns-then-b-eq40 c = body-bracket _ _ _ c.requires.1 c.requires.2 c.if-text-a
 pub returns-then-not-is_capital : goal.returns-then-not-is_capital
 returns-then-not-is_capital c =
     body-bad _ _ _ c.requires.1 c.requires.2 c.if-text-at.false c.if-b-eq47.false c.if-b-eq40.false
-    (simp (sym c.is_capital.ensures ∙ not-true _ c.if-not-is_capital.true))
+    (simp (sym c.is_capital.ensures ∙ c.if-not-is_capital.true))
 
 pub returns-then-small_at : goal.returns-then-small_at
 returns-then-small_at c =
     body-bad _ _ _ c.requires.1 c.requires.2 c.if-text-at.false c.if-b-eq47.false c.if-b-eq40.false
-    (simp (sym c.is_capital.ensures ∙ not-false _ c.if-not-is_capital.false, sym c.small_at.ensures ∙ c.if-small_at.true))
+    (simp (sym c.is_capital.ensures ∙ c.if-not-is_capital.false, sym c.small_at.ensures ∙ c.if-small_at.true))
 
 pub returns : goal.returns
 returns c =
     body-letter _ _ _ c.requires.1 c.requires.2 c.if-text-at.false _ c.if-b-eq47.false c.if-b-eq40.false
-    (simp (sym c.is_capital.ensures ∙ not-false _ c.if-not-is_capital.false, sym c.small_at.ensures ∙ c.if-small_at.false)) c.kind_of_capital-kind.ensures
+    (simp (sym c.is_capital.ensures ∙ c.if-not-is_capital.false, sym c.small_at.ensures ∙ c.if-small_at.false)) c.kind_of_capital-kind.ensures
