@@ -1,0 +1,16 @@
+-- No atom passed has too many hydrogens, and the total is that of the atoms passed.
+use mathlib.Core.Bool.{false}
+use mathlib.Core.Path.{◌≡◌}
+use Prim.Native.Nat.{◌≤◌, ◌-◌, ◌*◌}
+use lib.ListN.{get_or}
+use Rattle.lists.specs.Upto.{each, sum}
+use Rattle.lists.specs.Tests.{some}
+use Rattle.drawing.proofs.Counting.{over}
+use Rattle.drawing.proofs.hydrogens.hydrogens_fault.Given as goal
+
+abbrev pub invariant-loop-a : goal.invariant-loop-a
+invariant-loop-a l =
+    (l.a ≤ l.n) × (some (each l.a (over l.hydrogens)) ≡ false) × (l.total ≡ sum (each l.a (λ b. get_or l.hydrogens b 0))) × (l.total ≤ 4 * l.a)
+
+abbrev pub decreases-loop-a : goal.decreases-loop-a
+decreases-loop-a l = l.n - l.a
