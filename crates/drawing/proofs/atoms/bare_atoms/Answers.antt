@@ -34,20 +34,8 @@ loop-p-init c = (omega arith, heavies_start (kinds_of c), search rules, λ q h. 
 pub narrow-requires : goal.narrow-requires
 narrow-requires c = omega (arith, few (goal.at.narrow-requires c).At-loop-p)
 
-pub bounds-numbers-p : goal.bounds-numbers-p
-bounds-numbers-p c = omega (arith, c.requires.0.few, c.loop-p-test.true)
-
-pub bounds-kinds-p : goal.bounds-kinds-p
-bounds-kinds-p c = omega (arith, c.requires.0.few, c.loop-p-test.true)
-
 pub put_kind-n-requires : goal.put_kind-n-requires
 put_kind-n-requires c = room (goal.at.put_kind-n-requires c).At-loop-p c.loop-p-test.true
-
-pub overflow_add-p : goal.overflow_add-p
-overflow_add-p c = omega (arith, c.requires.0.few, c.loop-p-test.true)
-
-pub loop-p-smaller : goal.loop-p-smaller
-loop-p-smaller c = omega (arith, c.loop-p-test.true)
 
 pub loop-p-preserved : goal.loop-p-preserved
 loop-p-preserved c =

@@ -19,7 +19,7 @@ returns-then-kinds-p-ge-NO_KIND c =
 
 pub loop-p-preserved : goal.loop-p-preserved
 loop-p-preserved c =
-    let f : ltb 24 (get_or c.args.kinds.now c.loop-p.p 0) ≡ false = le-ltb 24 (get_or c.args.kinds.now c.loop-p.p 0) (omega (arith, c.if-kinds-p-ge-NO_KIND.false)) in
+    let f : ltb 24 (get_or c.args.kinds.now c.loop-p.p 0) ≡ false = le-ltb 24 (get_or c.args.kinds.now c.loop-p.p 0) (omega arith) in
     (omega (arith, c.loop-p-test.true), c.loop-p.invariant.1 ∙ rest_next (unknown c.args.kinds.now) c.args.atoms c.loop-p.p c.loop-p-test.true (rw f))
 
 pub returns : goal.returns
