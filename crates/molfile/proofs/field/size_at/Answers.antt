@@ -1,0 +1,10 @@
+-- The three columns are those of the definition.
+use mathlib.Core.Path.{◌∙◌}
+use Rattle.molfile.proofs.FieldLaws.{columns-three}
+use Rattle.molfile.proofs.field.size_at.Goals as goal
+
+pub returns : goal.returns
+returns c =
+    let column = c.column in
+    let column2 = c.column-2 in
+    record { is = c.type_size.ensures.is ∙ rw (column.ensures, column2.ensures, c.column-3.ensures, columns-three); small = c.type_size.ensures.small }

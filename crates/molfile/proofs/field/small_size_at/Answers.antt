@@ -1,0 +1,9 @@
+-- The two columns are those of the definition.
+use mathlib.Core.Path.{◌∙◌}
+use Rattle.molfile.proofs.FieldLaws.{columns-two, size-two}
+use Rattle.molfile.proofs.field.small_size_at.Goals as goal
+
+pub returns : goal.returns
+returns c =
+    let column = c.column in
+    record { is = c.type_size.ensures.is ∙ size-two _ _ ∙ rw (column.ensures, c.column-2.ensures, columns-two); small = c.type_size.ensures.small }

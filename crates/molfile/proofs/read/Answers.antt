@@ -1,0 +1,20 @@
+-- The length first, then the lines, then the drawing: each answer is one of the three.
+use mathlib.Core.Path.{refl}
+use mathlib.Core.Bool.{false}
+use native.Mathlib.Omega.{arith}
+use Rattle.molfile.proofs.ReadingLaws.{too_long, broken-line, judged-drawing}
+use Rattle.molfile.proofs.read.Goals as goal
+
+pub returns-then-file-gt-MOST_BYTES : goal.returns-then-file-gt-MOST_BYTES
+returns-then-file-gt-MOST_BYTES c = too_long _ _ (omega arith) c.refused.ensures.0 c.refused.ensures.1
+
+pub returns-then-f : goal.returns-then-f
+returns-then-f c =
+    let F = c.filed-f.ensures in
+    broken-line _ _ (omega arith) _ (F.stopped c.if-f.true) c.refused-then-f.ensures.0 c.refused-then-f.ensures.1
+
+pub returns : goal.returns
+returns c =
+    let F = c.filed-f.ensures in
+    let e = c.if-f.false in
+    judged-drawing _ _ (omega arith) (F.passed e) _ (F.drawing refl (refl, refl, refl) e) _ c.judged-folded.ensures refl
