@@ -85,7 +85,7 @@ returns c =
           if4.false c.properties-end.result c.properties-end.ensures ∙ ap (λ (x : Bool). ending x c.properties-end.result.place)
           c.if-end.false;
       drawing = λ l m x. drawn-is _ _ header.ensures if1.false _ counts.ensures if2.false _ atoms.ensures.0 if3.false _ bonds.ensures.0 _
-          L.1.1.1.0 L.1.1.1.1.0 L.1.1.1.1.1.0 (A.are l if3.false) (B.are m if4.false);
+          L.one L.two L.codes (A.are l if3.false) (B.are m if4.false);
       kinds_kept = A.kept;
       bonds_kept = B.kept;
       atoms = counts.ensures.few_atoms;

@@ -1,6 +1,5 @@
 -- The length first, then the lines, then the drawing: each answer is one of the three.
 use mathlib.Core.Path.{refl}
-use mathlib.Core.Bool.{false}
 use native.Mathlib.Omega.{arith}
 use Rattle.molfile.proofs.ReadingLaws.{too_long, broken-line, judged-drawing}
 use Rattle.molfile.proofs.read.Goals as goal

@@ -7,4 +7,4 @@ pub returns : goal.returns
 returns c =
     let column = c.column in
     let column2 = c.column-2 in
-    record { is = c.number_of_lem.ensures.is ∙ rw (column.ensures, column2.ensures, c.column-3.ensures, columns-three); small = c.number_of_lem.ensures.small }
+    record { is = c.number_of.ensures.is ∙ rw (column.ensures, column2.ensures, c.column-3.ensures, columns-three); small = c.number_of.ensures.small }

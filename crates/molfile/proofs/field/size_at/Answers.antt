@@ -7,4 +7,4 @@ pub returns : goal.returns
 returns c =
     let column = c.column in
     let column2 = c.column-2 in
-    record { is = c.type_size.ensures.is ∙ rw (column.ensures, column2.ensures, c.column-3.ensures, columns-three); small = c.type_size.ensures.small }
+    record { is = c.size_of.ensures.is ∙ rw (column.ensures, column2.ensures, c.column-3.ensures, columns-three); small = c.size_of.ensures.small }

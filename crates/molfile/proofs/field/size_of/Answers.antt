@@ -12,7 +12,7 @@ pub returns-then-a-ne-BLANK : goal.returns-then-a-ne-BLANK
 returns-then-a-ne-BLANK c =
     let is_signed = c.is_signed in
     let if1 = c.if-is_signed in
-    record { is = c.number_of_lem.ensures.is ∙ size-plain _ _ _ c.if-a-ne-BLANK.true (sym is_signed.ensures ∙ if1.false); small = c.number_of_lem.ensures.small }
+    record { is = c.number_of.ensures.is ∙ size-plain _ _ _ c.if-a-ne-BLANK.true (sym is_signed.ensures ∙ if1.false); small = c.number_of.ensures.small }
 
 pub returns-then-is_signed-2 : goal.returns-then-is_signed-2
 returns-then-is_signed-2 c =

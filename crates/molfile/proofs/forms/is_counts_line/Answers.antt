@@ -3,19 +3,18 @@ use Prim.Native.Nat.{ℕ}
 use mathlib.Core.Path.{sym, ◌∙◌, ap}
 use native.Mathlib.Omega.{arith}
 use lib.Dec.{ltb}
-use borrow.Author.Tests.{not-true, not-false}
 use Rattle.molfile.proofs.FormLaws.{counts_version, counts_atoms, counts_bonds}
 use Rattle.molfile.proofs.forms.is_counts_line.Goals as goal
 
 pub returns-then-not-is_version : goal.returns-then-not-is_version
-returns-then-not-is_version c = counts_version c.args.line.now (sym c.is_version.ensures ∙ not-true _ c.if-not-is_version.true)
+returns-then-not-is_version c = counts_version c.args.line.now (sym c.is_version.ensures ∙ c.if-not-is_version.true)
 
 pub returns-then-number_at-eq-NO_NUMBER : goal.returns-then-number_at-eq-NO_NUMBER
 returns-then-number_at-eq-NO_NUMBER c =
     let args = c.args in
     let is-version = c.is_version in
     let if1 = c.if-not-is_version in
-    counts_atoms args.line.now (sym is-version.ensures ∙ not-false _ if1.false) (sym c.number_at.ensures.is ∙ c.if-number_at-eq-NO_NUMBER.true)
+    counts_atoms args.line.now (sym is-version.ensures ∙ if1.false) (sym c.number_at.ensures.is ∙ c.if-number_at-eq-NO_NUMBER.true)
 
 pub returns : goal.returns
 returns c =
@@ -23,5 +22,5 @@ returns c =
     let is-version = c.is_version in
     let if1 = c.if-not-is_version in
     let number-at = c.number_at in
-    ap (λ (n : ℕ). ltb n 1000) c.number_at-2.ensures.is ∙ counts_bonds args.line.now (sym is-version.ensures ∙ not-false _ if1.false)
+    ap (λ (n : ℕ). ltb n 1000) c.number_at-2.ensures.is ∙ counts_bonds args.line.now (sym is-version.ensures ∙ if1.false)
     (omega (arith, number-at.ensures.is, number-at.ensures.small, c.if-number_at-eq-NO_NUMBER.false))

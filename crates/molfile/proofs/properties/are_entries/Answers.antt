@@ -1,9 +1,7 @@
 -- The entries before this one are entries.
-use Prim.Native.Nat.{ℕ, ◌-◌}
-use mathlib.Core.Bool.{true}
+use Prim.Native.Nat.{ℕ}
 use mathlib.Core.Path.{◌≡◌, sym, ◌∙◌, ap}
 use native.Mathlib.Omega.{arith}
-use borrow.Author.Tests.{not-true, not-false}
 use Rattle.lists.specs.Upto.{each}
 use Rattle.lists.specs.Tests.{every}
 use Rattle.ctfile.specs.Forms.{is_entry}
@@ -21,13 +19,13 @@ returns-then-not-is_entry c =
     let loop = c.loop-e in
     let loop-test = c.loop-e-test in
     sym (every-not (is_entry args.atoms args.line.now) args.entries loop.e loop-test.true
-    (sym c.is_entry.ensures ∙ not-true _ c.if-not-is_entry.true))
+    (sym c.is_entry.ensures ∙ c.if-not-is_entry.true))
 
 pub loop-e-preserved : goal.loop-e-preserved
 loop-e-preserved c =
     let args = c.args in
     let loop = c.loop-e in
-    (omega arith, every_more (is_entry args.atoms args.line.now) loop.e loop.invariant.1 (sym c.is_entry.ensures ∙ not-false _ c.if-not-is_entry.false))
+    (omega arith, every_more (is_entry args.atoms args.line.now) loop.e loop.invariant.1 (sym c.is_entry.ensures ∙ c.if-not-is_entry.false))
 
 pub returns : goal.returns
 returns c =

@@ -1,14 +1,13 @@
 -- One law of PropertyLaws for each return.
 use mathlib.Core.Path.{sym, ◌∙◌}
-use borrow.Author.Tests.{not-true, not-false}
 use Rattle.molfile.proofs.PropertyLaws.{end-other, end_rest}
 use Rattle.molfile.proofs.properties.is_end_line.Goals as goal
 
 pub returns-then-not-begins : goal.returns-then-not-begins
-returns-then-not-begins c = end-other c.args.line.now (sym c.begins.ensures ∙ not-true _ c.if-not-begins.true)
+returns-then-not-begins c = end-other c.args.line.now (sym c.begins.ensures ∙ c.if-not-begins.true)
 
 pub returns : goal.returns
 returns c =
     let args = c.args in
     let begins = c.begins in
-    c.blank_behind.ensures ∙ end_rest args.line.now (sym begins.ensures ∙ not-false _ c.if-not-begins.false)
+    c.blank_behind.ensures ∙ end_rest args.line.now (sym begins.ensures ∙ c.if-not-begins.false)

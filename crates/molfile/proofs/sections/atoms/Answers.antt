@@ -1,9 +1,8 @@
 -- Of the atom lines k are passed, and their kinds are in the array.
-use Prim.Native.Nat.{ℕ, ◌-◌}
+use Prim.Native.Nat.{ℕ}
 use mathlib.Core.Path.{◌≡◌, refl, sym, ◌∙◌, ap}
 use lib.ListN.{take, length-set}
 use native.Mathlib.Omega.{arith}
-use borrow.Author.Tests.{not-true, not-false}
 use Rattle.ctfile.specs.Forms.{kind_in, is_atom_line}
 use Rattle.molfile.proofs.PassingLaws.{onward_start, onward_missing, onward_broken, onward_next, onward_end, kept-start, kept-end}
 use Rattle.molfile.proofs.SectionLaws.{never, kind_on, kinds-next}
@@ -27,21 +26,15 @@ returns-then-n-at c =
       record { kept = loop.invariant.2; are = λ l e. never e },
     )
 
-pub UNKNOWN-slice-bounds-line-start : goal.UNKNOWN-slice-bounds-line-start
-UNKNOWN-slice-bounds-line-start c = c.line_at_lem.ensures.behind
-
-pub UNKNOWN-slice-bounds-line-end : goal.UNKNOWN-slice-bounds-line-end
-UNKNOWN-slice-bounds-line-end c = omega (arith, c.line_at_lem.ensures.cut, c.line_at_lem.ensures.within)
-
 pub returns-then-not-is_atom_line : goal.returns-then-not-is_atom_line
 returns-then-not-is_atom_line c =
     let args = c.args in
     let loop = c.loop-k in
     let loop-test = c.loop-k-test in
-    let line_at_lem = c.before.line_at_lem in
+    let line_at_lem = c.line_at-l in
     let e = line_at_lem.ensures in (
       onward_broken is_atom_line args.file.now _ _ _ _ loop.invariant.1 loop-test.true _ e
-          (sym (c.is_atom_line.ensures ∙ ap is_atom_line e.bytes) ∙ not-true _ c.if-not-is_atom_line.true),
+          (sym (c.is_atom_line.ensures ∙ ap is_atom_line e.bytes) ∙ c.if-not-is_atom_line.true),
       record { kept = loop.invariant.2; are = λ l e. never e },
     )
 
@@ -51,13 +44,13 @@ loop-k-preserved c =
     let args = c.args in
     let loop = c.loop-k in
     let loop-test = c.loop-k-test in
-    let line_at_lem = c.before.line_at_lem in
+    let line_at_lem = c.line_at-l in
     let is-atom-line = c.is_atom_line in
     let e = line_at_lem.ensures in
     let L = loop in (
       omega (arith, loop-test.true),
       onward_next is_atom_line args.file.now _ _ _ _ L.invariant.1 loop-test.true _ e
-          (sym (is-atom-line.ensures ∙ ap is_atom_line e.bytes) ∙ not-false _ c.if-not-is_atom_line.false),
+          (sym (is-atom-line.ensures ∙ ap is_atom_line e.bytes) ∙ c.if-not-is_atom_line.false),
       length-set L.kinds L.k _ ∙ L.invariant.2,
       λ l. kinds-next args.file.now args.from args.atoms L.k L.at _ loop-test.true e L.kinds _
           (omega (arith, l, L.invariant.2, pre, loop-test.true)) (c.kind_in.ensures ∙ ap kind_in e.bytes) (L.invariant.3 l),

@@ -1,9 +1,8 @@
 -- Of the bond lines k are passed, and their bonds are in the arrays.
-use Prim.Native.Nat.{ℕ, ◌-◌}
+use Prim.Native.Nat.{ℕ}
 use mathlib.Core.Path.{◌≡◌, refl, sym, ◌∙◌, ap}
 use lib.ListN.{length, length-set}
 use native.Mathlib.Omega.{arith}
-use borrow.Author.Tests.{not-true, not-false}
 use Rattle.lists.specs.Upto.{each}
 use Rattle.lists.proofs.Steps.{each-zero}
 use Rattle.ctfile.specs.Forms.{is_bond_line}
@@ -31,22 +30,16 @@ returns-then-n-at c =
       record { kept = loop.invariant.2; are = λ l e. never e },
     )
 
-pub UNKNOWN-slice-bounds-line-start : goal.UNKNOWN-slice-bounds-line-start
-UNKNOWN-slice-bounds-line-start c = c.line_at_lem.ensures.behind
-
-pub UNKNOWN-slice-bounds-line-end : goal.UNKNOWN-slice-bounds-line-end
-UNKNOWN-slice-bounds-line-end c = omega (arith, c.line_at_lem.ensures.cut, c.line_at_lem.ensures.within)
-
 pub returns-then-not-put_bond : goal.returns-then-not-put_bond
 returns-then-not-put_bond c =
     let args = c.args in
     let loop = c.loop-k in
     let loop-test = c.loop-k-test in
-    let line_at_lem = c.before.line_at_lem in
+    let line_at_lem = c.line_at-l in
     let e = line_at_lem.ensures in
     let p = c.put_bond.ensures in
     let L = loop in (
-      onward_broken is_bond_line args.file.now _ _ _ _ L.invariant.1 loop-test.true _ e (sym (p.0 ∙ ap is_bond_line e.bytes) ∙ not-true _ c.if-not-put_bond.true),
+      onward_broken is_bond_line args.file.now _ _ _ _ L.invariant.1 loop-test.true _ e (sym (p.0 ∙ ap is_bond_line e.bytes) ∙ c.if-not-put_bond.true),
       record {
         kept = (
           ap length p.1 ∙ length-set L.one L.k _ ∙ L.invariant.2.0,
@@ -64,13 +57,13 @@ loop-k-preserved c =
     let args = c.args in
     let loop = c.loop-k in
     let loop-test = c.loop-k-test in
-    let line_at_lem = c.before.line_at_lem in
+    let line_at_lem = c.line_at-l in
     let e = line_at_lem.ensures in
     let p = c.put_bond.ensures in
     let L = loop in
     let t = loop-test.true in (
       omega (arith, t),
-      onward_next is_bond_line args.file.now _ _ _ _ L.invariant.1 t _ e (sym (p.0 ∙ ap is_bond_line e.bytes) ∙ not-false _ c.if-not-put_bond.false),
+      onward_next is_bond_line args.file.now _ _ _ _ L.invariant.1 t _ e (sym (p.0 ∙ ap is_bond_line e.bytes) ∙ c.if-not-put_bond.false),
       (
         ap length p.1 ∙ length-set L.one L.k _ ∙ L.invariant.2.0,
         ap length p.2 ∙ length-set L.two L.k _ ∙ L.invariant.2.1,

@@ -1,5 +1,4 @@
 -- Of the three lines k are passed.
-use Prim.Native.Nat.{◌-◌}
 use mathlib.Core.Path.{refl}
 use Rattle.molfile.specs.Passing.{any_line}
 use Rattle.molfile.proofs.PassingLaws.{onward_start, onward_missing, onward_next, onward_end}
@@ -19,7 +18,7 @@ loop-k-preserved c =
     let args = c.args in
     let loop = c.loop-k in
     let loop-test = c.loop-k-test in
-    onward_next any_line args.file.now 0 3 _ _ loop.invariant loop-test.true _ c.line_at_lem.ensures refl
+    onward_next any_line args.file.now 0 3 _ _ loop.invariant loop-test.true _ c.line_at-l.ensures refl
 
 pub returns : goal.returns
 returns c = onward_end any_line c.args.file.now 0 3 _ _ c.loop-k.invariant c.loop-k-test.false
