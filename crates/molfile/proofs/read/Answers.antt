@@ -9,11 +9,8 @@ returns-then-file-gt-MOST_BYTES c = too_long _ _ (omega arith) c.refused.ensures
 
 pub returns-then-f : goal.returns-then-f
 returns-then-f c =
-    let F = c.filed-f.ensures in
-    broken-line _ _ (omega arith) _ (F.stopped c.if-f.true) c.refused-then-f.ensures.0 c.refused-then-f.ensures.1
+    broken-line _ _ (omega arith) _ (c.filed-f.ensures.stopped c.if-f.true) c.refused-then-f.ensures.0 c.refused-then-f.ensures.1
 
 pub returns : goal.returns
 returns c =
-    let F = c.filed-f.ensures in
-    let e = c.if-f.false in
-    judged-drawing _ _ (omega arith) (F.passed e) _ (F.drawing refl (refl, refl, refl) e) _ c.judged-folded.ensures refl
+    judged-drawing _ _ (omega arith) (c.filed-f.ensures.passed c.if-f.false) _ (c.filed-f.ensures.drawing refl (refl, refl, refl) c.if-f.false) _ c.judged-folded.ensures refl

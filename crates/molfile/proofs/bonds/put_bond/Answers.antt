@@ -7,13 +7,9 @@ use Rattle.molfile.proofs.bonds.put_bond.Goals as goal
 
 pub returns : goal.returns
 returns c =
-    let args = c.args in
-    let number-at = c.number_at-a in
-    let number-at2 = c.number_at-b in
-    let number-at3 = c.number_at-c in
     let from_one = c.from_one in (
-      c.is_bond.ensures ∙ bond-line args.line.now _ _ _ number-at.ensures.is number-at2.ensures.is number-at3.ensures.is,
-      ap (λ (x : ℕ). set args.one.now args.k x) (bond-first args.line.now _ _ from_one.ensures number-at.ensures.is),
-      ap (λ (x : ℕ). set args.two.now args.k x) (bond-second args.line.now _ _ c.from_one-2.ensures number-at2.ensures.is),
-      ap (λ (x : ℕ). set args.codes.now args.k x) (bond-third args.line.now _ number-at3.ensures.is),
+      c.is_bond.ensures ∙ bond-line c.args.line.now _ _ _ c.number_at-a.ensures.is c.number_at-b.ensures.is c.number_at-c.ensures.is,
+      ap (λ (x : ℕ). set c.args.one.now c.args.k x) (bond-first c.args.line.now _ _ from_one.ensures c.number_at-a.ensures.is),
+      ap (λ (x : ℕ). set c.args.two.now c.args.k x) (bond-second c.args.line.now _ _ c.from_one-2.ensures c.number_at-b.ensures.is),
+      ap (λ (x : ℕ). set c.args.codes.now c.args.k x) (bond-third c.args.line.now _ c.number_at-c.ensures.is),
     )

@@ -9,12 +9,10 @@ digit_more-requires c = (c.requires, sym c.is_digit.ensures ∙ c.if-is_digit.tr
 
 pub returns-then-is_digit : goal.returns-then-is_digit
 returns-then-is_digit c =
-    let args = c.args in
-    let is_digit = c.is_digit in
     record {
-      is = c.digit_more.ensures ∙ last_digit _ _ (sym is_digit.ensures ∙ c.if-is_digit.true);
+      is = c.digit_more.ensures ∙ last_digit _ _ (sym c.is_digit.ensures ∙ c.if-is_digit.true);
       small = omega
-          (arith, c.digit_more.ensures, digit_low args.c (sym is_digit.ensures ∙ c.if-is_digit.true));
+          (arith, c.digit_more.ensures, digit_low c.args.c (sym c.is_digit.ensures ∙ c.if-is_digit.true));
     }
 
 pub returns-then-c-eq-BLANK : goal.returns-then-c-eq-BLANK

@@ -12,18 +12,13 @@ digit_more-requires c = (omega arith, sym c.is_digit.ensures ∙ c.if-is_digit.t
 
 pub last_of-requires : goal.last_of-requires
 last_of-requires c =
-    let args = c.args in
-    let is_digit = c.is_digit in
-    omega (arith, c.digit_more.ensures, digit_low args.b (sym is_digit.ensures ∙ c.if-is_digit.true))
+    omega (arith, c.digit_more.ensures, digit_low c.args.b (sym c.is_digit.ensures ∙ c.if-is_digit.true))
 
 pub returns-then-is_digit : goal.returns-then-is_digit
 returns-then-is_digit c =
-    let args = c.args in
-    let is_digit = c.is_digit in
-    let if1 = c.if-is_digit in
     record {
-      is = c.last_of.ensures.is ∙ ap (λ (v : ℕ). decimal v (args.c ∷ [])) c.digit_more.ensures ∙ two-digit _ _ _
-          (sym is_digit.ensures ∙ if1.true);
+      is = c.last_of.ensures.is ∙ ap (λ (v : ℕ). decimal v (c.args.c ∷ [])) c.digit_more.ensures ∙ two-digit _ _ _
+          (sym c.is_digit.ensures ∙ c.if-is_digit.true);
       small = c.last_of.ensures.small;
     }
 

@@ -5,6 +5,4 @@ use Rattle.molfile.proofs.field.number_at.Goals as goal
 
 pub returns : goal.returns
 returns c =
-    let column = c.column in
-    let column2 = c.column-2 in
-    record { is = c.number_of.ensures.is ∙ rw (column.ensures, column2.ensures, c.column-3.ensures, columns-three); small = c.number_of.ensures.small }
+    record { is = c.number_of.ensures.is ∙ rw (c.column.ensures, c.column-2.ensures, c.column-3.ensures, columns-three); small = c.number_of.ensures.small }

@@ -12,32 +12,24 @@ digit_more-requires c = (omega arith, sym c.is_digit.ensures ∙ c.if-is_digit.t
 
 pub last_two_of-requires : goal.last_two_of-requires
 last_two_of-requires c =
-    let args = c.args in
-    let is_digit = c.is_digit in
-    omega (arith, c.digit_more.ensures, digit_low args.a (sym is_digit.ensures ∙ c.if-is_digit.true))
+    omega (arith, c.digit_more.ensures, digit_low c.args.a (sym c.is_digit.ensures ∙ c.if-is_digit.true))
 
 pub returns-then-is_digit : goal.returns-then-is_digit
 returns-then-is_digit c =
-    let args = c.args in
-    let is_digit = c.is_digit in
-    let if1 = c.if-is_digit in
     record {
-      is = c.last_two_of.ensures.is ∙ ap (λ (v : ℕ). decimal v (args.b ∷ args.c ∷ [])) c.digit_more.ensures ∙ number-digit _ _ _
-          (sym is_digit.ensures ∙ if1.true);
+      is = c.last_two_of.ensures.is ∙ ap (λ (v : ℕ). decimal v (c.args.b ∷ c.args.c ∷ [])) c.digit_more.ensures ∙ number-digit _ _ _
+          (sym c.is_digit.ensures ∙ c.if-is_digit.true);
       small = c.last_two_of.ensures.small;
     }
 
 pub returns-then-a-ne-BLANK : goal.returns-then-a-ne-BLANK
 returns-then-a-ne-BLANK c =
-    let is_digit = c.is_digit in
-    record { is = number-none _ _ _ (sym is_digit.ensures ∙ c.if-is_digit.false) c.if-a-ne-BLANK.true; small = omega arith }
+    record { is = number-none _ _ _ (sym c.is_digit.ensures ∙ c.if-is_digit.false) c.if-a-ne-BLANK.true; small = omega arith }
 
 pub returns-then-b-ne-BLANK : goal.returns-then-b-ne-BLANK
 returns-then-b-ne-BLANK c =
-    let if2 = c.if-a-ne-BLANK in
-    record { is = c.last_two_of-then-b-ne-BLANK.ensures.is ∙ number-two _ _ _ if2.false c.if-b-ne-BLANK.true; small = c.last_two_of-then-b-ne-BLANK.ensures.small }
+    record { is = c.last_two_of-then-b-ne-BLANK.ensures.is ∙ number-two _ _ _ c.if-a-ne-BLANK.false c.if-b-ne-BLANK.true; small = c.last_two_of-then-b-ne-BLANK.ensures.small }
 
 pub returns : goal.returns
 returns c =
-    let if2 = c.if-a-ne-BLANK in
-    record { is = c.last_of.ensures.is ∙ number-last _ _ _ if2.false c.if-b-ne-BLANK.false; small = c.last_of.ensures.small }
+    record { is = c.last_of.ensures.is ∙ number-last _ _ _ c.if-a-ne-BLANK.false c.if-b-ne-BLANK.false; small = c.last_of.ensures.small }

@@ -5,5 +5,4 @@ use Rattle.molfile.proofs.field.small_size_at.Goals as goal
 
 pub returns : goal.returns
 returns c =
-    let column = c.column in
-    record { is = c.size_of.ensures.is ∙ size-two _ _ ∙ rw (column.ensures, c.column-2.ensures, columns-two); small = c.size_of.ensures.small }
+    record { is = c.size_of.ensures.is ∙ size-two _ _ ∙ rw (c.column.ensures, c.column-2.ensures, columns-two); small = c.size_of.ensures.small }

@@ -10,44 +10,19 @@ loop-i-init c = (omega arith, refl)
 
 pub returns-then-column-text : goal.returns-then-column-text
 returns-then-column-text c =
-    let pre = c.requires in
-    let args = c.args in
-    let loop = c.loop-i in
-    let loop-test = c.loop-i-test in
-    let column = c.column in
-    let T = args.text.now in
-    let l = args.line.now in
-    let k = args.k in
-    let L = loop in
-    let e = pre.1 in
-    let f = columns-long k 6 l in
-    sym (differs T (columns k 6 l) L.i (omega (arith, e, loop-test.true)) (omega (arith, f, loop-test.true))
-    (λ q. c.if-column-text.true (column.ensures ∙ sym (columns-at k 6 l L.i loop-test.true) ∙ sym q))) ∙ L.invariant.1
+    let f = columns-long c.args.k 6 c.args.line.now in
+    sym (differs c.args.text.now (columns c.args.k 6 c.args.line.now) c.loop-i.i (omega (arith, c.requires.1, c.loop-i-test.true)) (omega (arith, f, c.loop-i-test.true))
+    (λ q. c.if-column-text.true (c.column.ensures ∙ sym (columns-at c.args.k 6 c.args.line.now c.loop-i.i c.loop-i-test.true) ∙ sym q))) ∙ c.loop-i.invariant.1
 
 pub loop-i-preserved : goal.loop-i-preserved
 loop-i-preserved c =
-    let pre = c.requires in
-    let args = c.args in
-    let loop = c.loop-i in
-    let loop-test = c.loop-i-test in
-    let column = c.column in
-    let T = args.text.now in
-    let l = args.line.now in
-    let k = args.k in
-    let L = loop in
-    let e = pre.1 in
-    let f = columns-long k 6 l in (
+    let f = columns-long c.args.k 6 c.args.line.now in (
       omega arith,
-      sym (agrees T (columns k 6 l) L.i (omega (arith, e, loop-test.true)) (omega (arith, f, loop-test.true))
-          (sym c.if-column-text.false ∙ column.ensures ∙ sym (columns-at k 6 l L.i loop-test.true))) ∙ L.invariant.1,
+      sym (agrees c.args.text.now (columns c.args.k 6 c.args.line.now) c.loop-i.i (omega (arith, c.requires.1, c.loop-i-test.true)) (omega (arith, f, c.loop-i-test.true))
+          (sym c.if-column-text.false ∙ c.column.ensures ∙ sym (columns-at c.args.k 6 c.args.line.now c.loop-i.i c.loop-i-test.true))) ∙ c.loop-i.invariant.1,
     )
 
 pub returns : goal.returns
 returns c =
-    let T = c.args.text.now in
-    let l = c.args.line.now in
-    let k = c.args.k in
-    let L = c.loop-i in
-    let e = c.requires.1 in
-    let f = columns-long k 6 l in
-    sym (same_end T (columns k 6 l) L.i (omega (arith, e, c.loop-i-test.false)) (omega (arith, f, c.loop-i-test.false))) ∙ L.invariant.1
+    let f = columns-long c.args.k 6 c.args.line.now in
+    sym (same_end c.args.text.now (columns c.args.k 6 c.args.line.now) c.loop-i.i (omega (arith, c.requires.1, c.loop-i-test.false)) (omega (arith, f, c.loop-i-test.false))) ∙ c.loop-i.invariant.1

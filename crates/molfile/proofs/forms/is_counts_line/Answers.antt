@@ -11,16 +11,9 @@ returns-then-not-is_version c = counts_version c.args.line.now (sym c.is_version
 
 pub returns-then-number_at-eq-NO_NUMBER : goal.returns-then-number_at-eq-NO_NUMBER
 returns-then-number_at-eq-NO_NUMBER c =
-    let args = c.args in
-    let is-version = c.is_version in
-    let if1 = c.if-not-is_version in
-    counts_atoms args.line.now (sym is-version.ensures ∙ if1.false) (sym c.number_at.ensures.is ∙ c.if-number_at-eq-NO_NUMBER.true)
+    counts_atoms c.args.line.now (sym c.is_version.ensures ∙ c.if-not-is_version.false) (sym c.number_at.ensures.is ∙ c.if-number_at-eq-NO_NUMBER.true)
 
 pub returns : goal.returns
 returns c =
-    let args = c.args in
-    let is-version = c.is_version in
-    let if1 = c.if-not-is_version in
-    let number-at = c.number_at in
-    ap (λ (n : ℕ). ltb n 1000) c.number_at-2.ensures.is ∙ counts_bonds args.line.now (sym is-version.ensures ∙ if1.false)
-    (omega (arith, number-at.ensures.is, number-at.ensures.small, c.if-number_at-eq-NO_NUMBER.false))
+    ap (λ (n : ℕ). ltb n 1000) c.number_at-2.ensures.is ∙ counts_bonds c.args.line.now (sym c.is_version.ensures ∙ c.if-not-is_version.false)
+    (omega (arith, c.number_at.ensures.is, c.number_at.ensures.small, c.if-number_at-eq-NO_NUMBER.false))

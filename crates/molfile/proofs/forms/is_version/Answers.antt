@@ -8,7 +8,4 @@ returns-then-holds c = version_before c.args.line.now (sym c.holds.ensures ∙ c
 
 pub returns : goal.returns
 returns c =
-    let args = c.args in
-    let holds = c.holds in
-    let if1 = c.if-holds in
-    c.holds-2.ensures ∙ version_behind args.line.now (sym holds.ensures ∙ if1.false)
+    c.holds-2.ensures ∙ version_behind c.args.line.now (sym c.holds.ensures ∙ c.if-holds.false)

@@ -9,19 +9,12 @@ loop-i-init c = (c.requires, refl)
 
 pub returns-then-file-i-eq-LF : goal.returns-then-file-i-eq-LF
 returns-then-file-i-eq-LF c =
-    let args = c.args in
-    let loop = c.loop-i in
-    let loop-test = c.loop-i-test in
-    let L = loop in let e = feed_here args.file.now L.i loop-test.true c.if-file-i-eq-LF.true in omega (arith, e, L.invariant.1)
+    let L = c.loop-i in let e = feed_here c.args.file.now L.i c.loop-i-test.true c.if-file-i-eq-LF.true in omega (arith, e, L.invariant.1)
 
 pub loop-i-preserved : goal.loop-i-preserved
 loop-i-preserved c =
-    let args = c.args in
-    let loop = c.loop-i in
-    let loop-test = c.loop-i-test in
-    let L = loop in let e = feed_on args.file.now L.i loop-test.true c.if-file-i-eq-LF.false in (omega arith, omega (arith, e, L.invariant.1))
+    let L = c.loop-i in let e = feed_on c.args.file.now L.i c.loop-i-test.true c.if-file-i-eq-LF.false in (omega arith, omega (arith, e, L.invariant.1))
 
 pub returns : goal.returns
 returns c =
-    let args = c.args in
-    let L = c.loop-i in let e = feed_out args.file.now L.i c.loop-i-test.false in omega (arith, e, L.invariant.1, L.invariant.0)
+    let L = c.loop-i in let e = feed_out c.args.file.now L.i c.loop-i-test.false in omega (arith, e, L.invariant.1, L.invariant.0)

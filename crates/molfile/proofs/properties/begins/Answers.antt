@@ -10,5 +10,4 @@ returns-then-line-lt6 c = cut_off c.args.text.now c.args.line.now 6 c.requires c
 
 pub returns : goal.returns
 returns c =
-    let args = c.args in
-    c.holds.ensures ∙ ap (λ (ys : List ℕ). same args.text.now ys) (columns-first 6 args.line.now c.if-line-lt6.false)
+    c.holds.ensures ∙ ap (λ (ys : List ℕ). same c.args.text.now ys) (columns-first 6 c.args.line.now c.if-line-lt6.false)

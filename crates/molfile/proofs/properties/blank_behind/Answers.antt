@@ -8,17 +8,11 @@ loop-i-init c = refl
 
 pub returns-then-line-i-ne-BLANK : goal.returns-then-line-i-ne-BLANK
 returns-then-line-i-ne-BLANK c =
-    let args = c.args in
-    let loop = c.loop-i in
-    let loop-test = c.loop-i-test in
-    sym (blank-not args.line.now loop.i loop-test.true c.if-line-i-ne-BLANK.true) ∙ loop.invariant
+    sym (blank-not c.args.line.now c.loop-i.i c.loop-i-test.true c.if-line-i-ne-BLANK.true) ∙ c.loop-i.invariant
 
 pub loop-i-preserved : goal.loop-i-preserved
 loop-i-preserved c =
-    let args = c.args in
-    let loop = c.loop-i in
-    let loop-test = c.loop-i-test in
-    sym (blank-on args.line.now loop.i loop-test.true c.if-line-i-ne-BLANK.false) ∙ loop.invariant
+    sym (blank-on c.args.line.now c.loop-i.i c.loop-i-test.true c.if-line-i-ne-BLANK.false) ∙ c.loop-i.invariant
 
 pub returns : goal.returns
 returns c = sym (blank-out c.args.line.now c.loop-i.i c.loop-i-test.false) ∙ c.loop-i.invariant

@@ -8,6 +8,4 @@ returns-then-not-begins c = end-other c.args.line.now (sym c.begins.ensures ∙ 
 
 pub returns : goal.returns
 returns c =
-    let args = c.args in
-    let begins = c.begins in
-    c.blank_behind.ensures ∙ end_rest args.line.now (sym begins.ensures ∙ c.if-not-begins.false)
+    c.blank_behind.ensures ∙ end_rest c.args.line.now (sym c.begins.ensures ∙ c.if-not-begins.false)

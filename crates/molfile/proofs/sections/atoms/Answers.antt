@@ -19,52 +19,41 @@ loop-k-init c = (
 
 pub returns-then-n-at : goal.returns-then-n-at
 returns-then-n-at c =
-    let args = c.args in
-    let loop = c.loop-k in (
-      onward_missing is_atom_line args.file.now _ _ _ _ loop.invariant.1 c.loop-k-test.true
+    let L = c.loop-k in (
+      onward_missing is_atom_line c.args.file.now _ _ _ _ L.invariant.1 c.loop-k-test.true
           c.if-n-at.true,
-      record { kept = loop.invariant.2; are = λ l e. never e },
+      record { kept = L.invariant.2; are = λ l e. never e },
     )
 
 pub returns-then-not-is_atom_line : goal.returns-then-not-is_atom_line
 returns-then-not-is_atom_line c =
-    let args = c.args in
-    let loop = c.loop-k in
-    let loop-test = c.loop-k-test in
-    let line_at_lem = c.line_at-l in
-    let e = line_at_lem.ensures in (
-      onward_broken is_atom_line args.file.now _ _ _ _ loop.invariant.1 loop-test.true _ e
+    let L = c.loop-k in
+    let e = c.line_at-l.ensures in (
+      onward_broken is_atom_line c.args.file.now _ _ _ _ L.invariant.1 c.loop-k-test.true _ e
           (sym (c.is_atom_line.ensures ∙ ap is_atom_line e.bytes) ∙ c.if-not-is_atom_line.true),
-      record { kept = loop.invariant.2; are = λ l e. never e },
+      record { kept = L.invariant.2; are = λ l e. never e },
     )
 
 pub loop-k-preserved : goal.loop-k-preserved
 loop-k-preserved c =
-    let pre = c.requires in
-    let args = c.args in
-    let loop = c.loop-k in
-    let loop-test = c.loop-k-test in
-    let line_at_lem = c.line_at-l in
-    let is-atom-line = c.is_atom_line in
-    let e = line_at_lem.ensures in
-    let L = loop in (
-      omega (arith, loop-test.true),
-      onward_next is_atom_line args.file.now _ _ _ _ L.invariant.1 loop-test.true _ e
-          (sym (is-atom-line.ensures ∙ ap is_atom_line e.bytes) ∙ c.if-not-is_atom_line.false),
+    let L = c.loop-k in
+    let e = c.line_at-l.ensures in (
+      omega (arith, c.loop-k-test.true),
+      onward_next is_atom_line c.args.file.now _ _ _ _ L.invariant.1 c.loop-k-test.true _ e
+          (sym (c.is_atom_line.ensures ∙ ap is_atom_line e.bytes) ∙ c.if-not-is_atom_line.false),
       length-set L.kinds L.k _ ∙ L.invariant.2,
-      λ l. kinds-next args.file.now args.from args.atoms L.k L.at _ loop-test.true e L.kinds _
-          (omega (arith, l, L.invariant.2, pre, loop-test.true)) (c.kind_in.ensures ∙ ap kind_in e.bytes) (L.invariant.3 l),
+      λ l. kinds-next c.args.file.now c.args.from c.args.atoms L.k L.at _ c.loop-k-test.true e L.kinds _
+          (omega (arith, l, L.invariant.2, c.requires, c.loop-k-test.true)) (c.kind_in.ensures ∙ ap kind_in e.bytes) (L.invariant.3 l),
     )
 
 pub returns : goal.returns
 returns c =
-    let args = c.args in
     let L = c.loop-k in
-    let n : L.k ≡ args.atoms = omega (arith, L.invariant.0, c.loop-k-test.false) in (
-      onward_end is_atom_line args.file.now _ _ _ _ L.invariant.1 c.loop-k-test.false,
+    let n : L.k ≡ c.args.atoms = omega (arith, L.invariant.0, c.loop-k-test.false) in (
+      onward_end is_atom_line c.args.file.now _ _ _ _ L.invariant.1 c.loop-k-test.false,
       record {
         kept = L.invariant.2;
-        are = λ l e. ap (λ (j : ℕ). take j L.kinds) (sym n) ∙ kept-end kind_on args.file.now args.from args.atoms L.k
+        are = λ l e. ap (λ (j : ℕ). take j L.kinds) (sym n) ∙ kept-end kind_on c.args.file.now c.args.from c.args.atoms L.k
             L.at (take L.k L.kinds) c.loop-k-test.false (L.invariant.3 l);
       },
     )

@@ -23,23 +23,18 @@ loop-k-init c = (
 
 pub returns-then-n-at : goal.returns-then-n-at
 returns-then-n-at c =
-    let args = c.args in
-    let loop = c.loop-k in (
-      onward_missing is_bond_line args.file.now _ _ _ _ loop.invariant.1 c.loop-k-test.true
+    let L = c.loop-k in (
+      onward_missing is_bond_line c.args.file.now _ _ _ _ L.invariant.1 c.loop-k-test.true
           c.if-n-at.true,
-      record { kept = loop.invariant.2; are = λ l e. never e },
+      record { kept = L.invariant.2; are = λ l e. never e },
     )
 
 pub returns-then-not-put_bond : goal.returns-then-not-put_bond
 returns-then-not-put_bond c =
-    let args = c.args in
-    let loop = c.loop-k in
-    let loop-test = c.loop-k-test in
-    let line_at_lem = c.line_at-l in
-    let e = line_at_lem.ensures in
-    let p = c.put_bond.ensures in
-    let L = loop in (
-      onward_broken is_bond_line args.file.now _ _ _ _ L.invariant.1 loop-test.true _ e (sym (p.0 ∙ ap is_bond_line e.bytes) ∙ c.if-not-put_bond.true),
+    let L = c.loop-k in
+    let e = c.line_at-l.ensures in
+    let p = c.put_bond.ensures in (
+      onward_broken is_bond_line c.args.file.now _ _ _ _ L.invariant.1 c.loop-k-test.true _ e (sym (p.0 ∙ ap is_bond_line e.bytes) ∙ c.if-not-put_bond.true),
       record {
         kept = (
           ap length p.1 ∙ length-set L.one L.k _ ∙ L.invariant.2.0,
@@ -53,37 +48,31 @@ returns-then-not-put_bond c =
 
 pub loop-k-preserved : goal.loop-k-preserved
 loop-k-preserved c =
-    let pre = c.requires in
-    let args = c.args in
-    let loop = c.loop-k in
-    let loop-test = c.loop-k-test in
-    let line_at_lem = c.line_at-l in
-    let e = line_at_lem.ensures in
+    let L = c.loop-k in
+    let e = c.line_at-l.ensures in
     let p = c.put_bond.ensures in
-    let L = loop in
-    let t = loop-test.true in (
+    let t = c.loop-k-test.true in (
       omega (arith, t),
-      onward_next is_bond_line args.file.now _ _ _ _ L.invariant.1 t _ e (sym (p.0 ∙ ap is_bond_line e.bytes) ∙ c.if-not-put_bond.false),
+      onward_next is_bond_line c.args.file.now _ _ _ _ L.invariant.1 t _ e (sym (p.0 ∙ ap is_bond_line e.bytes) ∙ c.if-not-put_bond.false),
       (
         ap length p.1 ∙ length-set L.one L.k _ ∙ L.invariant.2.0,
         ap length p.2 ∙ length-set L.two L.k _ ∙ L.invariant.2.1,
         ap length p.3
             ∙ length-set L.codes L.k _ ∙ L.invariant.2.2,
       ),
-      λ l. bonds-put args.file.now args.from args.bonds L.k L.at _ t e L.one L.two L.codes
-          (omega (arith, l.0, L.invariant.2.0, pre, t), omega (arith, l.1, L.invariant.2.1, pre, t), omega (arith, l.2, L.invariant.2.2, pre, t))
+      λ l. bonds-put c.args.file.now c.args.from c.args.bonds L.k L.at _ t e L.one L.two L.codes
+          (omega (arith, l.0, L.invariant.2.0, c.requires, t), omega (arith, l.1, L.invariant.2.1, c.requires, t), omega (arith, l.2, L.invariant.2.2, c.requires, t))
           _ _ _ _ e.bytes p.1 p.2 p.3 (L.invariant.3 l),
     )
 
 pub returns : goal.returns
 returns c =
-    let args = c.args in
     let L = c.loop-k in
-    let n : L.k ≡ args.bonds = omega (arith, L.invariant.0, c.loop-k-test.false) in (
-      onward_end is_bond_line args.file.now _ _ _ _ L.invariant.1 c.loop-k-test.false,
+    let n : L.k ≡ c.args.bonds = omega (arith, L.invariant.0, c.loop-k-test.false) in (
+      onward_end is_bond_line c.args.file.now _ _ _ _ L.invariant.1 c.loop-k-test.false,
       record {
         kept = L.invariant.2;
-        are = λ l e. ap (λ (j : ℕ). each j (bond_of L.one L.two L.codes)) (sym n) ∙ kept-end bond_on args.file.now args.from args.bonds
+        are = λ l e. ap (λ (j : ℕ). each j (bond_of L.one L.two L.codes)) (sym n) ∙ kept-end bond_on c.args.file.now c.args.from c.args.bonds
             L.k L.at (each L.k (bond_of L.one L.two L.codes)) c.loop-k-test.false (L.invariant.3 l);
       },
     )

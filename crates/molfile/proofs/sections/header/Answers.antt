@@ -9,16 +9,11 @@ loop-k-init c = onward_start any_line c.args.file.now 0 3
 
 pub returns-then-n-at : goal.returns-then-n-at
 returns-then-n-at c =
-    let args = c.args in
-    let loop = c.loop-k in
-    onward_missing any_line args.file.now 0 3 _ _ loop.invariant c.loop-k-test.true c.if-n-at.true
+    onward_missing any_line c.args.file.now 0 3 _ _ c.loop-k.invariant c.loop-k-test.true c.if-n-at.true
 
 pub loop-k-preserved : goal.loop-k-preserved
 loop-k-preserved c =
-    let args = c.args in
-    let loop = c.loop-k in
-    let loop-test = c.loop-k-test in
-    onward_next any_line args.file.now 0 3 _ _ loop.invariant loop-test.true _ c.line_at-l.ensures refl
+    onward_next any_line c.args.file.now 0 3 _ _ c.loop-k.invariant c.loop-k-test.true _ c.line_at-l.ensures refl
 
 pub returns : goal.returns
 returns c = onward_end any_line c.args.file.now 0 3 _ _ c.loop-k.invariant c.loop-k-test.false
