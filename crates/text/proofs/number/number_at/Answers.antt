@@ -23,7 +23,7 @@ returns-then-a-eq0 c =
 pub returns-then-c-eq10 : goal.returns-then-c-eq10
 returns-then-c-eq10 c =
     record {
-      is = num-2 _ _ _ c.digit_at-a.ensures.is c.if-a-eq10.false _ c.digit_at-b.ensures.is c.if-b-eq10.false c.if-a-eq0.false _
+      is = num-2 _ _ _ c.digit_at-a.ensures.is c.if-a-eq10.false _ c.digit_at-b.ensures.is c.if-b-eq10.false (omega arith) _
           c.digit_at-c.ensures.is c.if-c-eq10.true;
       small = (omega arith, omega arith);
     }
@@ -31,7 +31,7 @@ returns-then-c-eq10 c =
 pub returns-then-d-eq10 : goal.returns-then-d-eq10
 returns-then-d-eq10 c =
     record {
-      is = num-3 _ _ _ c.digit_at-a.ensures.is c.if-a-eq10.false _ c.digit_at-b.ensures.is c.if-b-eq10.false c.if-a-eq0.false _
+      is = num-3 _ _ _ c.digit_at-a.ensures.is c.if-a-eq10.false _ c.digit_at-b.ensures.is c.if-b-eq10.false (omega arith) _
           c.digit_at-c.ensures.is c.if-c-eq10.false _ c.digit_at-d.ensures.is c.if-d-eq10.true;
       small = (omega arith, omega arith);
     }
@@ -39,7 +39,7 @@ returns-then-d-eq10 c =
 pub returns : goal.returns
 returns c =
     record {
-      is = none-4 _ _ _ c.digit_at-a.ensures.is c.if-a-eq10.false _ c.digit_at-b.ensures.is c.if-b-eq10.false c.if-a-eq0.false _
+      is = none-4 _ _ _ c.digit_at-a.ensures.is c.if-a-eq10.false _ c.digit_at-b.ensures.is c.if-b-eq10.false (omega arith) _
           c.digit_at-c.ensures.is c.if-c-eq10.false _ c.digit_at-d.ensures.is c.if-d-eq10.false;
       small = tt;
     }
