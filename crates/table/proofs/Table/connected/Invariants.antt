@@ -6,7 +6,7 @@ use Rattle.table.proofs.Table.connected.Given as goal
 
 abbrev pub invariant-loop-head : goal.invariant-loop-head
 invariant-loop-head l =
-    Going (arrays_of l.self) (record { l.seen = l.seen; l.queue = l.queue; l.end = l.end }) l.head
+    Going (arrays_of l.self) (record { seen = l.seen; queue = l.queue; end = l.end }) l.head
 
 abbrev pub decreases-loop-head : goal.decreases-loop-head
 decreases-loop-head l = 64 - l.head

@@ -1,6 +1,6 @@
 -- What is still to be seen of the row, seen from here on, comes to what the whole row comes to.
 use mathlib.Core.Path.{refl, sym, ◌∙◌, ap, subst}
-use Prim.Native.Nat.{◌+◌, ◌<◌, ◌-◌, ◌≤◌}
+use Prim.Native.Nat.{◌+◌, ◌<◌, ◌≤◌}
 use lib.ListN.{length, get_or, drop_of_length-le, drop}
 use Rattle.table.proofs.RowLaws.{row-long}
 use Rattle.table.proofs.FloodLaws.{see-counted, see_all-next}
@@ -13,7 +13,7 @@ pub loop-p-init : goal.loop-p-init
 loop-p-init c = (omega arith, c.requires.0, refl)
 
 pub see-last-requires : goal.see-last-requires
-see-last-requires c κs =
+see-last-requires c =
     (c.loop-p.invariant.1, c.requires.2 c.loop-p.p (omega (arith, c.wide-d.ensures)))
 
 pub loop-p-preserved : goal.loop-p-preserved

@@ -8,8 +8,8 @@ use Rattle.table.proofs.flood.visit.Given as goal
 
 abbrev pub invariant-loop-p : goal.invariant-loop-p
 invariant-loop-p l =
-    (l.p ≤ l.d) × Counted (record { l.seen = l.seen; l.queue = l.queue; l.end = l.last })
-    × (see_all (record { l.seen = l.seen; l.queue = l.queue; l.end = l.last }) (drop l.p (row_in l.degrees l.near l.i)) ≡ see_all (record { l.seen = l.initial.seen; l.queue = l.initial.queue; l.end = l.end }) (row_in l.degrees l.near l.i))
+    (l.p ≤ l.d) × Counted (record { seen = l.seen; queue = l.queue; end = l.last })
+    × (see_all (record { seen = l.seen; queue = l.queue; end = l.last }) (drop l.p (row_in l.degrees l.near l.i)) ≡ see_all (record { seen = l.initial.seen; queue = l.initial.queue; end = l.end }) (row_in l.degrees l.near l.i))
 
 abbrev pub decreases-loop-p : goal.decreases-loop-p
 decreases-loop-p l = l.d - l.p
