@@ -1,10 +1,11 @@
 -- The bytes passed are digits; the first that is none fails the whole.
 use mathlib.Core.Bool.{true, false, and-false}
 use mathlib.Core.Path.{◌≡◌, sym, ◌∙◌, ap}
-use Prim.Native.Nat.{ℕ, ◌≤◌}
+use Prim.Native.Nat.{ℕ, ◌%◌, ◌≤◌}
 use native.Mathlib.Omega.{arith}
 use lib.Dec.{ltb}
 use lib.ListN.{length, get_or}
+use Rattle.std.specs.Prelude.{◌≢◌}
 use borrow.Author.Tests.{ne_eqb, eq-eqb, le-ltb, lt-ltb}
 use Rattle.lists.specs.Upto.{each}
 use Rattle.lists.specs.Tests.{every}
@@ -14,7 +15,9 @@ use Rattle.lines.proofs.HexDigits.{hex-low}
 use Rattle.lines.proofs.hex.is_hex.Goals as goal
 
 pub returns-then-n-ne0 : goal.returns-then-n-ne0
-returns-then-n-ne0 c = rw (ne_eqb _ _ c.if-n-ne0.true)
+returns-then-n-ne0 c =
+    let odd : length c.args.field.now % 2 ≢ 0 = omega arith in
+    rw (ne_eqb _ _ odd)
 
 pub loop-i-init : goal.loop-i-init
 loop-i-init c = (omega arith, passed_none _)
