@@ -9,14 +9,14 @@ mod flood;
 pub mod rows;
 
 // An atom's number in a card or a table, from 0.
-#[derive(Drop)]
+#[derive(Clone, Copy, Drop)]
 pub struct AtomNo(pub u8);
 
 // An atom's rank in a marking, from 1.
-#[derive(Drop)]
+#[derive(Clone, Copy, Drop)]
 pub struct Rank(pub u8);
 
-#[derive(Drop)]
+#[derive(Clone, Copy, Drop)]
 pub struct Table {
     pub n: usize,
     pub kinds: [u8; Table::MAX_ATOMS],
