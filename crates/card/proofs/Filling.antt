@@ -1,16 +1,15 @@
 -- The atoms of a card read one by one: the table so far, the total so far, and the faults still to come.
-use mathlib.Core.Bool.{Bool, true, false, cond, not}
+use mathlib.Core.Bool.{Bool, cond}
 use mathlib.Core.List.{List}
 use mathlib.Core.Logic.{◌≢◌}
-use mathlib.Core.Path.{◌≡◌, refl, sym, ◌∙◌, ap, ap₂, subst}
+use mathlib.Core.Path.{◌≡◌, sym, ◌∙◌, ap, ap₂, subst}
 use Prim.Native.Nat.{ℕ, suc, ◌+◌, ◌*◌, ◌<◌, ◌≤◌}
 use native.Mathlib.Omega.{arith}
-use lib.Dec.{ltb}
 use lib.ListN.{set}
-use borrow.Author.Tests.{lt-ltb, le-ltb, ltb-false}
+use borrow.Author.Tests.{lt-ltb, le-ltb}
+use Rattle.std.proofs.lemmas.Bool.Decides.{nat_tests}
 use Rattle.lists.specs.Upto.{each, sum}
 use Rattle.lists.proofs.Steps.{each-zero, sum-next}
-use Rattle.molecule.specs.Kinds.{is_kind}
 use Rattle.molecule.specs.Layout.{atom_count, kind_at, hydrogens_at}
 use Rattle.molecule.specs.Judged.{atom_fault, atoms_fault, total_fault}
 use Rattle.table.specs.declared.Table.{Table}
@@ -30,12 +29,7 @@ pub record Filling (s : List ℕ) (t : Table) (total : ℕ) : Type 0 where
   pub rest : atoms_fault s ≡ Rest (atom_fault s) (atom_count s) t.n
 
 tested_low : (k h : ℕ) → atom_tested k h ≡ 0 → h ≤ 4
-tested_low k h e = go (not (is_kind k)) (ltb 4 h) refl e
-  where
-    go : (p q : Bool) → ltb 4 h ≡ q → cond {A = ℕ} p 3 (cond q 4 0) ≡ 0 → h ≤ 4
-    go true q f e = absurd (omega arith)
-    go false true f e = absurd (omega arith)
-    go false false f e = ltb-false 4 h f
+tested_low k h e = grind (arith, nat_tests)
 
 module _ (s : List ℕ) where
   pub filling_start : (t : Table) → t.n ≡ 0 → TidyTable t → Filling s t 0

@@ -10,6 +10,7 @@ use super::{CardRead, refused, wide};
 use table::{AtomNo, Table};
 
 // 5 for an atom that is not there; 6 for a bond to itself, a second one on the pair, a code not 1 to 4; 4 for a seventh on an atom.
+#[tactic(auto, unfolding(crate::specs::Tests::bond_tested))]
 pub fn bond_fault<'a>(
     n: usize,
     degrees: &'a [u8; Table::MAX_ATOMS],

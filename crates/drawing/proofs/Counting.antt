@@ -1,5 +1,5 @@
 -- The counts of a drawing, one atom or bond at a time.
-use mathlib.Core.Bool.{Bool, true, false, cond, not, ◌||◌}
+use mathlib.Core.Bool.{Bool, true, false, cond, not, ◌&&◌, ◌||◌}
 use mathlib.Core.List.{List, map}
 use mathlib.Core.Path.{◌≡◌, ◌∙◌, sym, ap}
 use Prim.Native.Nat.{ℕ, ◌+◌, ◌<◌, ◌≤◌}
@@ -25,10 +25,20 @@ pub bonds-next : (ks one two : List ℕ) (k : ℕ)
 bonds-next ks one two k = rw (add-one k) (count_next k (λ j. not (is_h_in ks (get_or one j 0) || is_h_in ks (get_or two j 0))))
 
 -- the unknown symbols, by place
+abbrev pub unknown : List ℕ → ℕ → ℕ
+unknown kinds q = cond (ltb 24 (get_or kinds q 0)) 3 0
+
 pub unknown-start : (ks : List ℕ) (n : ℕ) → n ≤ length ks → unknown_tested (take n ks) ≡ Rest (λ q. cond (ltb 24 (get_or ks q 0)) 3 0) n 0
 unknown-start ks n h =
     ap (λ (l : List ℕ). first_fault (map (λ k. cond (ltb 24 k) 3 0) l)) (sym (each_take ks n 0 h))
     ∙ ap first_fault (map_each (λ (k : ℕ). cond {A = ℕ} (ltb 24 k) 3 0) n (λ i. get_or ks i 0)) ∙ rest_start (λ q. cond (ltb 24 (get_or ks q 0)) 3 0) n
+
+-- an H without a bond, and an atom with too many hydrogens, by place
+abbrev pub lone : (kinds used : List ℕ) → ℕ → Bool
+lone kinds used q = eqb (get_or kinds q 0) 0 && eqb (get_or used q 0) 0
+
+abbrev pub over : List ℕ → ℕ → Bool
+over hydrogens b = ltb 4 (get_or hydrogens b 0)
 
 -- a test of the numbers below a bound, one number more; and one that passes
 module _ (p : ℕ → Bool) where

@@ -17,7 +17,7 @@ use Rattle.table.specs.declared.Table.{Table}
 use Rattle.card.proofs.Faults.{Rest, rest_start}
 use Rattle.card.proofs.Bonded.{Bonded, bonded-none}
 use Rattle.ctfile.specs.Filed.{Drawing}
-use Rattle.ctfile.specs.Drawings.{to_h, as_read, no_bond, bond_fault, bonds_fault}
+use Rattle.ctfile.specs.Drawings.{as_read, no_bond, bond_fault, bonds_fault}
 use Rattle.drawing.specs.declared.atoms.Bare.{Bare}
 use Rattle.drawing.specs.Tests.{capped, one_more}
 use Rattle.drawing.specs.Folding.{Bares, counted}

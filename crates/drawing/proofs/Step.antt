@@ -50,8 +50,8 @@ module _ (d : Drawing) (t : Table) (marks : List ℕ) (k : ℕ) (F : FoldedTo d 
   abbrev pub ends : ℕ
   ends = tested d (take k d.bonds) kinds marks K F.used (bond_of i j code)
 
-  one_more : take (k + 1) d.bonds ≡ bs ++ (b ∷ [])
-  one_more = rw (add-one k) (take-suc d.bonds k no_bond h ∙ ap (λ (x : Bond). bs ++ (x ∷ [])) same)
+  one_bond_more : take (k + 1) d.bonds ≡ bs ++ (b ∷ [])
+  one_bond_more = rw (add-one k) (take-suc d.bonds k no_bond h ∙ ap (λ (x : Bond). bs ++ (x ∷ [])) same)
 
   fault_here : fault_at d k ≡ bond_fault d bs b
   fault_here = ap (bond_fault d bs) same
@@ -117,12 +117,12 @@ module _ (d : Drawing) (t : Table) (marks : List ℕ) (k : ℕ) (F : FoldedTo d 
         folded-next e B H = record {
           few = omega arith;
           atoms = F.atoms;
-          rows = rw one_more B;
+          rows = rw one_bond_more B;
           kinds = F.kinds;
-          hydrogens = λ a l. rw one_more (H a l);
-          ends = rw one_more (all_snoc (Inside d) bs b F.ends I);
+          hydrogens = λ a l. rw one_bond_more (H a l);
+          ends = rw one_bond_more (all_snoc (Inside d) bs b F.ends I);
           long = length-set (set marks i 1) j 1 ∙ length-set marks i 1 ∙ F.long;
-          used = λ p l. rw one_more (marks-are p l);
+          used = λ p l. rw one_bond_more (marks-are p l);
           rest = F.rest ∙ rest_next (fault_at d) (length d.bonds) k h e;
         }
           where

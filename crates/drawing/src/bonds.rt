@@ -93,8 +93,8 @@ fn put_link(
     b: AtomNo,
     code: u16,
 ) -> u8
-    requires { Linkable n (record { degrees = degrees.now; near = near.old; codes = codes.old }) kind other (bond_of a.0 b.0 code) }
-    ensures { Linked n (record { degrees = degrees.entry.now; near = near.old; codes = codes.old }) hydrogens.old kind other (bond_of a.0 b.0 code) result (record { degrees = degrees.exit.now; near = near.new; codes = codes.new }) hydrogens.new }
+    requires { Linkable n (record { degrees = degrees.old; near = near.old; codes = codes.old }) kind other (bond_of a.0 b.0 code) }
+    ensures { Linked n (record { degrees = degrees.old; near = near.old; codes = codes.old }) hydrogens.old kind other (bond_of a.0 b.0 code) result (record { degrees = degrees.new; near = near.new; codes = codes.new }) hydrogens.new }
 {
     if kind == 0 {
         count_hydrogen(hydrogens, b);
@@ -128,8 +128,8 @@ fn fold_bond<'a>(
     j: usize,
     code: u16,
 ) -> u8
-    requires { Foldable kinds.now numbers.now atoms n used.old (record { degrees = degrees.now; near = near.old; codes = codes.old }) (bond_of i j code) }
-    ensures { BondFolded kinds.now numbers.now atoms n used.old (record { degrees = degrees.entry.now; near = near.old; codes = codes.old }) hydrogens.old (bond_of i j code) result used.new (record { degrees = degrees.exit.now; near = near.new; codes = codes.new }) hydrogens.new }
+    requires { Foldable kinds.now numbers.now atoms n used.old (record { degrees = degrees.old; near = near.old; codes = codes.old }) (bond_of i j code) }
+    ensures { BondFolded kinds.now numbers.now atoms n used.old (record { degrees = degrees.old; near = near.old; codes = codes.old }) hydrogens.old (bond_of i j code) result used.new (record { degrees = degrees.new; near = near.new; codes = codes.new }) hydrogens.new }
 {
     let absent = ends_fault(kinds, used, atoms, i, j, code);
     if absent != 0 {

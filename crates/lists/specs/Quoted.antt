@@ -1,6 +1,5 @@
 -- Bytes written as a quoted text: plain characters, or hexadecimal digits with blanks between.
 use Rattle.std.specs.Prelude.{cond, List, ℕ, ◌+◌, ◌-◌, ◌*◌, eqb, leb}
-use mathlib.Core.List
 use Prim.Native.Char.{code}
 use Prim.Native.String.{String, [], ◌∷◌}
 

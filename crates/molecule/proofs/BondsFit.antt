@@ -12,7 +12,7 @@ use lib.Dec.{eqb, ltb}
 use lib.ListN.{length, get_or, take}
 use borrow.Author.Tests.{eq-eqb, ne_eqb, lt-ltb, le-ltb, ltb-true}
 use Rattle.lists.specs.Upto.{upto, each}
-use Rattle.lists.specs.Tests.{count, some}
+use Rattle.lists.specs.Tests.{count}
 use Rattle.lists.proofs.Booleans.{and_both, eqb_swap}
 use Rattle.lists.proofs.Sums.{sum-eq, sum-add, sum-le, sum-pick, count-sum}
 use Rattle.lists.proofs.Counts.{count-eq, count-le, count-split, count_none, count-pick, count-only}

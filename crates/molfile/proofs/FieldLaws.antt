@@ -79,7 +79,7 @@ module _ (a b c : ℕ) where
 
   pub number-none : is_digit a ≡ false → (a ≡ 32 → ⊥) → 1000 ≡ number_in (a ∷ b ∷ c ∷ [])
   unfolding number_in unled decimal every
-  number-none e n = simp (ne_eqb a 32 n) (simp (e, ne_eqb a 32 n))
+  number-none e n = simp (ne_eqb a 32 n) (simp e)
 
   pub number-two : a ≡ 32 → (b ≡ 32 → ⊥) → decimal 0 (b ∷ c ∷ []) ≡ number_in (a ∷ b ∷ c ∷ [])
   unfolding number_in unled

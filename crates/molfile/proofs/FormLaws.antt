@@ -124,7 +124,7 @@ module _ (b c : ℕ) where
 
   pub kind-both : (c ≡ 32 → ⊥) → (b ≡ 32 → ⊥) → kind_of_symbol (b ∷ c ∷ []) ≡ kind_of_symbol (untrailed (unled (b ∷ c ∷ [])))
   unfolding untrailed unled every
-  kind-both n m = let q = ne_eqb c 32 n in let p = ne_eqb b 32 m in simp p (simp (p, q))
+  kind-both n m = let q = ne_eqb c 32 n in let p = ne_eqb b 32 m in simp p (simp q)
 
 -- of three columns the first or the last is blank
 module _ (a b c : ℕ) where

@@ -1,3 +1,2 @@
 // Definitions only: the four answers of document 01 stand under specs/.
 #![tactic(auto)]
-

@@ -1,14 +1,13 @@
 -- A molfile read and numbered: its answer is that of the molecule it folds to, by the fault and the place of the file.
 use mathlib.Core.Bool.{Bool, true, false, cond}
 use mathlib.Core.List.{List}
-use mathlib.Core.Logic.{◌≢◌}
-use mathlib.Core.Path.{◌≡◌, refl, ap}
-use Prim.Native.Nat.{ℕ, zero, suc}
+use mathlib.Core.Path.{◌≡◌, refl}
+use Prim.Native.Nat.{ℕ}
 use native.Mathlib.Omega.{arith}
 use lib.Dec.{ltb}
 use lib.ListN.{length}
 use Rattle.molecule.specs.Molecule.{Molecule}
-use Rattle.rules.specs.Answers.{Answer, refused, numbered, unless_faulty, name_out}
+use Rattle.rules.specs.Answers.{refused, numbered, name_out}
 use Rattle.rules.proofs.Answered.{judged-faulty, judged-answered}
 use Rattle.ctfile.specs.Filed.{Verdict, sound, broken, verdict, drawing_of}
 use Rattle.ctfile.specs.Drawings.{folded, drawing_fault}

@@ -10,7 +10,6 @@ use native.Mathlib.Omega.{arith}
 use lib.ListN.{length}
 use lib.Dec.{ltb}
 use borrow.Author.Tests.{lt-ltb, ltb-true}
-use Rattle.lists.specs.Tests.{some}
 use Rattle.lists.proofs.Counts.{count-fewer}
 use Rattle.lists.proofs.All.{All, all_map, all_mem}
 use Rattle.molecule.specs.Molecule.{Molecule}

@@ -9,7 +9,6 @@ use native.Mathlib.Omega.{arith}
 use lib.ListN.{length, get_or, length-map, get_or-map}
 use lib.Dec.{eqb}
 use borrow.Author.Tests.{ne_eqb, le-ltb, eqb-true}
-use Rattle.lists.specs.Tests.{some}
 use Rattle.molecule.specs.Molecule.{Molecule}
 use Rattle.molecule.proofs.Sound.{Sound}
 use Rattle.sling.specs.Items.{at, atom, reference, ring}

@@ -8,7 +8,7 @@ use lib.ListN.{length, get_or, length-map, get_or-map}
 use lib.Dec.{eqb, eqb-zero-suc, eqb-suc-suc}
 use borrow.Author.Tests.{ne_eqb, eqb-true}
 use Rattle.lists.specs.Upto.{upto, each, sum}
-use Rattle.lists.specs.Tests.{keep, count, some}
+use Rattle.lists.specs.Tests.{keep, count}
 use Rattle.lists.specs.Shuffle.{Shuffle}
 use Rattle.lists.proofs.Sums.{sum-eq, sum-const, count-sum, sum-swap}
 use Rattle.lists.proofs.Counts.{count_none, count-eq, count-pick}

@@ -21,7 +21,7 @@ use Rattle.molecule.proofs.BondLists.{joins-ends}
 use Rattle.sling.specs.Walk.{code_at, Written, place_in, is_written, is_traced}
 use Rattle.sling.proofs.Tidy.{bond}
 use Rattle.sling.proofs.Places.{On, place-more, on-more, on-new}
-use Rattle.sling.proofs.Strokes.{Near, next_at, back, Keeps, keeps_put}
+use Rattle.sling.proofs.Strokes.{Near, next_at, Keeps, keeps_put}
 
 -- the ends of the bonds are places
 abbrev pub Within : ℕ → Bond → Type 0

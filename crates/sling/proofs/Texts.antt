@@ -7,7 +7,6 @@ use native.Mathlib.Omega.{arith}
 use lib.ListN.{length, get_or}
 use lib.Dec.{eqb, ltb}
 use borrow.Author.Tests.{eqb-false}
-use Rattle.lists.specs.Tests.{some}
 use Rattle.lists.proofs.All.{all_mem, all_get_d}
 use Rattle.molecule.specs.Bonds.{Bond}
 use Rattle.molecule.proofs.Sound.{Sound}

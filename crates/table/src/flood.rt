@@ -12,8 +12,8 @@ fn see(
     end: usize,
     b: AtomNo,
 ) -> usize
-    requires { Counted (record { seen = seen.now; queue = queue.old; end = end }) × (b.0 < 64) }
-    ensures { record { seen = seen.exit.now; queue = queue.new; end = result } ≡ see (record { seen = seen.entry.now; queue = queue.old; end = end }) b.0 }
+    requires { Counted (record { seen = seen.old; queue = queue.old; end = end }) × (b.0 < 64) }
+    ensures { record { seen = seen.new; queue = queue.new; end = result } ≡ see (record { seen = seen.old; queue = queue.old; end = end }) b.0 }
 {
     let i = b.0 as usize;
     if seen[i] != 0 {
@@ -33,8 +33,8 @@ pub fn visit<'a>(
     end: usize,
     a: AtomNo,
 ) -> usize
-    requires { Counted (record { seen = seen.now; queue = queue.old; end = end }) × HasRow degrees.now near.now a.0 × ((p : ℕ) → p < get_or degrees.now a.0 0 → get_or near.now (6 * a.0 + p) 0 < 64) }
-    ensures { record { seen = seen.exit.now; queue = queue.new; end = result } ≡ see_all (record { seen = seen.entry.now; queue = queue.old; end = end }) (row_in degrees.now near.now a.0) }
+    requires { Counted (record { seen = seen.old; queue = queue.old; end = end }) × HasRow degrees.now near.now a.0 × ((p : ℕ) → p < get_or degrees.now a.0 0 → get_or near.now (6 * a.0 + p) 0 < 64) }
+    ensures { record { seen = seen.new; queue = queue.new; end = result } ≡ see_all (record { seen = seen.old; queue = queue.old; end = end }) (row_in degrees.now near.now a.0) }
 {
     let i = a.0 as usize;
     let d = wide(degrees[i]);

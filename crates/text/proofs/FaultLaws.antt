@@ -1,15 +1,14 @@
 -- The faults of an item, by the counts that a reader keeps.
-use Prim.Native.Nat.{ℕ, zero, suc, ◌+◌, ◌-◌, ◌≤◌, ◌<◌}
+use Prim.Native.Nat.{ℕ, zero, suc, ◌+◌, ◌-◌, ◌<◌}
 use mathlib.Core.Path.{◌≡◌, refl, sym, ap, ap₂, ◌∙◌}
 use mathlib.Core.List.{List, [], ◌∷◌, ◌++◌, map}
-use mathlib.Core.Bool.{Bool, true, false, cond, not, ◌&&◌, ◌||◌, or-true, or-false, and-false, and-true}
+use mathlib.Core.Bool.{Bool, true, false, cond, not, ◌&&◌, ◌||◌, or-true, or-false}
 use native.Mathlib.Numerals.{add-one}
-use native.Mathlib.Nat.{zero-add}
 use native.Mathlib.Omega.{arith}
-use lib.ListN.{length, get_or, length-append, get_or-append}
+use lib.ListN.{length, get_or, get_or-append}
 use lib.Seq.{get_or-append_seam}
 use lib.Dec.{eqb, ltb}
-use borrow.Author.Tests.{eq-eqb, ne_eqb, eqb-true, lt-ltb, le-ltb, ltb-true, ltb-false}
+use borrow.Author.Tests.{eq-eqb, ne_eqb, eqb-true, lt-ltb, le-ltb}
 use Rattle.lists.specs.Upto.{upto, each}
 use Rattle.lists.specs.Tests.{count, some}
 use Rattle.lists.proofs.Steps.{each-zero, some_next}
@@ -18,16 +17,16 @@ use Rattle.lists.proofs.Upto.{mem_upto}
 use Rattle.molecule.specs.Bonds.{Bond, on, joins}
 use Rattle.sling.specs.Items.{Target, at, Item, atom, reference, ring}
 use Rattle.sling.specs.Reading.{State, place_of, after, drawn, is_h, to_h, hydrogens_on, bonds_on}
-use Rattle.sling.specs.Faults.{wrong_h, broken_h, heavy_atoms, hydrogen_atoms, heavy_bonds, over_at, over, item_fault}
-use Rattle.lists.proofs.All.{All, map-all, count-all_none}
+use Rattle.sling.specs.Faults.{wrong_h, broken_h, heavy_atoms, hydrogen_atoms, heavy_bonds, over, item_fault}
+use Rattle.lists.proofs.All.{count-all_none}
 use Rattle.lists.proofs.Passed.{count-snoc}
-use Rattle.sling.proofs.Tidy.{Reader, Proper}
+use Rattle.sling.proofs.Tidy.{Reader}
 use Rattle.sling.proofs.Limits.{Room}
 use Rattle.text.specs.declared.tally.Tally.{Tally}
 use Rattle.text.specs.declared.fault.End.{End}
 use Rattle.text.specs.Holding.{bit, h_bit, h_bond, grown_by, bonded_by}
 use Rattle.text.specs.Judging.{h_broken, over_in, over_on, opening_fault, atom_fault, ring_fault, reference_fault}
-use Rattle.text.proofs.StateLaws.{bit_not, grown_hydrogens_on, grown_bonds_on, grown_heavy_bonds}
+use Rattle.text.proofs.StateLaws.{grown_hydrogens_on, grown_bonds_on, grown_heavy_bonds}
 
 -- one that passes is one of them
 pub some-pass_below : (n : ℕ) (p : ℕ → Bool) (a : ℕ) → a < n → p a ≡ true → some (each n p) ≡ true

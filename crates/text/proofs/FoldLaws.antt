@@ -11,7 +11,7 @@ use lib.Seq.{get_or-append_seam, get_or-set_same, get_or-set_other}
 use lib.Dec.{eqb}
 use borrow.Author.Tests.{ne_eqb, eqb-false}
 use Rattle.lists.specs.Upto.{from}
-use Rattle.lists.specs.Tests.{keep, count}
+use Rattle.lists.specs.Tests.{keep}
 use Rattle.lists.proofs.KeptBelow.{count-more, kept-count, kept-hit, kept-miss, kept_at}
 use Rattle.sling.specs.Reading as rules
 use Rattle.sling.specs.Reading.{is_h, hydrogens_on}

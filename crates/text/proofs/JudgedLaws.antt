@@ -7,7 +7,6 @@ use native.Mathlib.Omega.{arith}
 use lib.ListN.{length}
 use lib.Dec.{eqb, leb}
 use borrow.Author.Tests.{ne_eqb, lt-ltb, le-ltb, le-leb, lt-leb, leb-true, leb-false}
-use Rattle.lists.specs.Upto.{each}
 use Rattle.lists.specs.Tests.{some}
 use Rattle.lists.proofs.Upto.{map_each}
 use Rattle.molecule.specs.Bonds.{joins}

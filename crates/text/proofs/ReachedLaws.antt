@@ -37,7 +37,7 @@ reached-start = record { items = []; marked = tt; is = refl }
 -- one token more, after those that were all accepted
 run_more : (ts : List Token) (t s : State) (i : rule.Item) → run ts t ≡ finished s → item_fault s i ≡ 0 → run (ts ++ (tok 0 i ∷ [])) t ≡ finished (after s i)
 unfolding run
-run_more [] t s i e f = let q : t ≡ s = cc in simp (q, f)
+run_more [] t s i e f = let q : t ≡ s = cc in rw (q, f) refl
 run_more (bad o ∷ ts) t s i e f = absurd (let z : ◌≡◌ {A = ℕ} 0 1 = cc in omega arith)
 run_more (tok o j ∷ ts) t s i e f = pick (item_fault t j) refl e (run_more ts (after t j) s i)
   where

@@ -1,5 +1,4 @@
 -- An item with its atom named by place is judged and followed as the item is.
-use Prim.Native.Nat.{ℕ}
 use mathlib.Core.Bool.{Bool, true, false}
 use mathlib.Core.Path.{◌≡◌, refl, ap, ◌∙◌}
 use lib.Dec.{eqb}

@@ -71,8 +71,8 @@ fn put_link(
     b: AtomNo,
     code: u8,
 )
-    requires { Linkable (record { degrees = degrees.now; near = near.old; codes = codes.old }) kind other a.0 b.0 }
-    ensures { Links (record { degrees = degrees.entry.now; near = near.old; codes = codes.old }) kind other a.0 b.0 code (record { degrees = degrees.exit.now; near = near.new; codes = codes.new }) }
+    requires { Linkable (record { degrees = degrees.old; near = near.old; codes = codes.old }) kind other a.0 b.0 }
+    ensures { Links (record { degrees = degrees.old; near = near.old; codes = codes.old }) kind other a.0 b.0 code (record { degrees = degrees.new; near = near.new; codes = codes.new }) }
 {
     if kind == 0 {
         return;

@@ -12,7 +12,7 @@ use table::Table;
 
 // By place, each atom's kind and the place at which it was attached; the bonds drawn, between places; the cursor. What the limits count
 // is kept beside them (atoms and bonds without H, hydrogens in total, and both on each place), so that judging an item counts nothing.
-#[derive(Drop)]
+#[derive(Clone, Copy, Drop)]
 pub struct State {
     pub kinds: [u8; State::PLACES],
     pub ups: [u8; State::PLACES],

@@ -5,7 +5,7 @@ ghost use Rattle.text.specs.Changing.{no_tally, moved_tally};
 use crate::item::Place;
 
 // Places and bonds drawn; of these atoms, hydrogens and bonds as the limits count them.
-#[derive(Drop)]
+#[derive(Clone, Copy, Drop)]
 pub struct Tally {
     pub n: usize,
     pub drawn: usize,

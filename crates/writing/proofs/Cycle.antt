@@ -6,7 +6,7 @@ use Prim.Native.Nat.{ℕ, zero, suc, ◌+◌, ◌*◌, ◌-◌, ◌<◌, ◌≤�
 use native.Mathlib.Omega.{arith}
 use lib.ListN.{length, get_or, set, take, drop, take-append-drop}
 use borrow.Author.Tests.{lt-ltb, ltb-true, ltb-false}
-use Rattle.molecule.specs.Molecule.{Molecule, hydrogens}
+use Rattle.molecule.specs.Molecule.{Molecule}
 use Rattle.sling.specs.Walk.{kind_at, hydrogens_at, neighbours_at, code_at, Written, place_in, is_written, is_traced, serve, put, close, put_hs, trace, traces, finish}
 use Rattle.sling.proofs.Places.{On, on-new}
 use Rattle.writing.specs.declared.Pen.{Pen}

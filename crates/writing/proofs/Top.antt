@@ -1,14 +1,14 @@
 -- The first atom written, the walk begun, and what the walk's end says of the name.
 use mathlib.Core.Bool.{false, cond}
 use mathlib.Core.List.Memᴰ
-use mathlib.Core.List.{List, [], ◌∷◌, ◌++◌, append-nil}
+use mathlib.Core.List.{List, [], ◌∷◌, append-nil}
 use mathlib.Core.Path.{◌≡◌, refl, sym, ap, ◌∙◌}
 use Prim.Native.Nat.{ℕ, zero, suc, ◌+◌, ◌*◌, ◌<◌, ◌≤◌}
 use native.Mathlib.Omega.{arith}
-use lib.ListN.{length, get_or, set, take, drop, replicate, length-set, length-replicate, get_or-replicate}
-use borrow.Author.Tests.{lt-ltb, le-ltb, ne_eqb}
+use lib.ListN.{length, get_or, set, replicate, length-set, length-replicate, get_or-replicate}
+use borrow.Author.Tests.{ne_eqb}
 use Rattle.lists.specs.Tests.{some}
-use Rattle.molecule.specs.Molecule.{Molecule, hydrogens}
+use Rattle.molecule.specs.Molecule.{Molecule}
 use Rattle.molecule.proofs.Sound.{Sound}
 use Rattle.sling.specs.Items.{atom}
 use Rattle.sling.specs.Walk.{place_in, is_written, finish, first, written}

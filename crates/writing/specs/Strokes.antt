@@ -1,4 +1,4 @@
--- The two strokes that trace a bond between atoms e .one and e.two, whose ranks are one more than their numbers.
+-- The two strokes that trace a bond between atoms e.one and e.two, whose ranks are one more than their numbers.
 use Rattle.std.specs.Prelude.{ℕ, suc, ◌≤◌, List}
 use Rattle.sling.specs.Walk.{Written, serve, put, close}
 use Rattle.writing.specs.declared.Bond.{Bond}

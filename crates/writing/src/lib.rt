@@ -16,7 +16,7 @@ mod strokes;
 mod walk;
 
 // An atom's place in a text, from 0, hydrogens counted.
-#[derive(Drop)]
+#[derive(Clone, Copy, Drop)]
 struct Place(pub u16);
 
 impl Place {
@@ -25,7 +25,7 @@ impl Place {
 }
 
 // What the walk carries: the bytes written, the next place, the cursor's place, and whether a digit stands before.
-#[derive(Drop)]
+#[derive(Clone, Copy, Drop)]
 struct Pen {
     pub length: usize,
     pub next: Place,
