@@ -11,6 +11,9 @@ use crate::request::{Op, Request};
 use lines::output;
 use scallopgrid::Answer;
 
+// The longest room that is asked for.
+const MOST_ROOM: usize = 4096;
+
 fn ask(op: Op, input: &[u8], allowance: u16, out: &mut [u8]) -> Answer
     ensures { Allowed (answer_of op input.now allowance (length out.old)) out.old (returned result out.new) × (result.length ≤ length out.old) }
 {
@@ -33,6 +36,12 @@ fn put_answer(a: Answer, bytes: &[u8], out: &mut [u8]) -> usize
     output::put_newline(out, end)
 }
 
+fn lent_buffer() -> [u8; MOST_ROOM]
+    ensures { 4096 ≡ length result }
+{
+    [0u8; MOST_ROOM]
+}
+
 fn answer_request(
     op: Op,
     allowance: u16,
@@ -45,7 +54,7 @@ fn answer_request(
     ensures { Prints (line_for (Request.Asks op allowance room) (input_of hex.now)) printed.old printed.new result × (input.new ≡ fronted (input_of hex.now) input.old) }
 {
     let n = request::read_input(hex, input);
-    let mut lent = io::buffer();
+    let mut lent = lent_buffer();
     let a = ask(op, &input[..n], allowance, &mut lent[..room]);
     let k = a.length;
     put_answer(a, &lent[..k], printed)
@@ -63,7 +72,7 @@ pub fn answer(line: &[u8], input: &mut [u8], printed: &mut [u8]) -> usize
         room,
     } = request::request_of(line)
     else {
-        return bytes::copy(b"BADLINE\n", printed);
+        return output::copy(b"BADLINE\n", printed);
     };
     answer_request(
         op,

@@ -1,6 +1,8 @@
 // For each line of standard input that asks, a line that answers.
 #![tactic(auto)]
 
-fn main() {
-    answering::run(libc::STDIN_FILENO);
+use std::io;
+
+fn main(rt: HostRuntime) -> io::Result<()> {
+    answering::run(&mut rt.stdin(), &mut rt.stdout())
 }

@@ -4,5 +4,6 @@ pub mod Parts
 pub mod Passing
 pub mod Putting
 pub mod Spelling
+pub mod Standing
 pub mod Shown
 pub mod Words

@@ -1,6 +1,12 @@
 -- The fields of a line, parted by one blank.
-use Rattle.std.specs.Prelude.{Bool, true, false, ◌&&◌, List, [], ◌∷◌, ℕ, suc, eqb, take, drop}
-use Rattle.bytes.specs.Bytes.{index_of}
+use Rattle.std.specs.Prelude.{Bool, true, false, cond, ◌&&◌, List, [], ◌∷◌, ℕ, suc, eqb, take, drop}
+
+-- where b stands first, or the length where it does not stand
+unfoldable pub index_of : ℕ → List ℕ → ℕ
+index_of b [] = 0
+index_of b (x ∷ l) =
+    let more = suc (index_of b l) in
+    cond (eqb x b) 0 more
 
 -- what stands before the first blank, or all where there is none
 abbrev pub field_of : List ℕ → List ℕ

@@ -2,7 +2,6 @@
 use Rattle.std.specs.Prelude.{Bool, cond, ◌&&◌, List, ℕ, ◌+◌, ◌-◌, ◌*◌, ◌/◌, ◌%◌, eqb, leb, ltb, length, get_or}
 use Rattle.lists.specs.Upto.{each}
 use Rattle.lists.specs.Tests.{every}
-use Rattle.io.specs.Digits.{hex_digit_ascii}
 
 -- the value of a digit, small or capital letters, or 16 of any other byte
 unfoldable pub hex_digit_of : ℕ → ℕ
@@ -20,9 +19,13 @@ byte_at l i = 16 * hex_digit_of (get_or l (2 * i) 0) + hex_digit_of (get_or l (2
 abbrev pub bytes_of : List ℕ → List ℕ
 bytes_of l = each (length l / 2) (byte_at l)
 
+-- the digit of a value below 16, in small letters
+abbrev pub glyph : ℕ → ℕ
+glyph d = cond (ltb d 10) (48 + d) (87 + d)
+
 -- the digit written at k: of byte k / 2 the high one, then the low one
 abbrev pub hex_at : List ℕ → ℕ → ℕ
-hex_at bytes k = hex_digit_ascii (cond (eqb (k % 2) 0) (get_or bytes (k / 2) 0 / 16) (get_or bytes (k / 2) 0 % 16))
+hex_at bytes k = glyph (cond (eqb (k % 2) 0) (get_or bytes (k / 2) 0 / 16) (get_or bytes (k / 2) 0 % 16))
 
 abbrev pub hex_of : List ℕ → List ℕ
 hex_of bytes = each (2 * length bytes) (hex_at bytes)

@@ -1,7 +1,6 @@
 // Bytes in hexadecimal.
 ghost use Rattle.std.specs.Prelude.{true, ◌≡◌, ◌*◌, ◌/◌, ◌≤◌, ◌<◌, length};
-ghost use Rattle.io.specs.Digits.{hex_digit_ascii as Digits·glyph};
-ghost use Rattle.lines.specs.Hex.{hex_digit_of, is_hex, bytes_of, hex_at, hex_of};
+ghost use Rattle.lines.specs.Hex.{hex_digit_of, is_hex, bytes_of, glyph, hex_at, hex_of};
 ghost use Rattle.lines.specs.Written.{Prints};
 
 // No digit has this value.
@@ -52,7 +51,7 @@ pub fn read_bytes(field: &[u8], out: &mut [u8]) -> usize
 
 fn glyph(d: u8) -> u8
     requires { d < 16 }
-    ensures { result ≡ Digits·glyph d }
+    ensures { result ≡ glyph d }
 {
     if d < 10 {
         return 48 + d;

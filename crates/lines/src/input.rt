@@ -1,6 +1,10 @@
-// Lines of a file descriptor, read in large pieces.
-ghost use Rattle.std.specs.Prelude.{◌≡◌, ◌≤◌, min, length};
+// Lines of an input, read in large pieces.
+ghost use Rattle.std.specs.Prelude.{◌≡◌, ◌≤◌, min, length, IfOk};
 ghost use Rattle.lines.specs.Gathered.{Appends, Inside};
+
+use crate::field;
+use std::io;
+use std::io::Read;
 
 // The part of the buffer that was read and not handed out yet.
 #[derive(Drop)]
@@ -46,55 +50,73 @@ fn append(line: &mut [u8], held: usize, piece: &[u8]) -> usize
     ensures { Appends line.old held piece.now line.new result }
 {
     let n = least(piece.len(), line.len() - held);
-    bytes::copy(&piece[..n], &mut line[held..]);
-    held + n
+    let next = held + n;
+    line[held..next].copy_from_slice(&piece[..n]);
+    next
 }
 
 // What is unread, or the next piece of the input where all is handed out: nothing where the input has ended.
-fn filled(fd: i32, buffer: &mut [u8], unread: Unread) -> Unread
+fn filled<R: Read>(reader: &mut R, buffer: &mut [u8], unread: Unread) -> io::Result<Unread>
     requires { Inside unread buffer.old }
-    ensures { Inside result buffer.new }
+    ensures { IfOk result (λ u. Inside u buffer.new) }
 {
     if unread.at < unread.end {
-        return unread;
+        return Ok(unread);
     }
-    let got = libc::read(fd, buffer);
-    Unread {
-        at: 0,
-        end: io::count(got, buffer),
-    }
+    let end = reader.read(buffer)?;
+    Ok(Unread { at: 0, end })
 }
 
 // The next line without its newline, which the last one may lack. Bytes for which there is no room are passed over.
-pub fn next_line(fd: i32, buffer: &mut [u8], unread: Unread, line: &mut [u8]) -> Line
+pub fn next_line<R: Read>(
+    reader: &mut R,
+    buffer: &mut [u8],
+    unread: Unread,
+    line: &mut [u8],
+) -> io::Result<Line>
     requires { Inside unread buffer.old }
-    ensures { (result.length ≤ length line.new) × Inside result.unread buffer.new }
+    ensures { IfOk result (λ l. (l.length ≤ length line.new) × Inside l.unread buffer.new) }
 {
     let mut left = unread;
     let mut held: usize = 0;
     for _ in 0u64..MOST_READS {
-        left = filled(fd, buffer, left);
+        left = filled(reader, buffer, left)?;
         let at = left.at;
         let end = left.end;
         if at == end {
             break;
         }
-        let e = bytes::scan::find(buffer, at, end, NEWLINE);
+        let e = at + field::find(&buffer[at..end], NEWLINE);
         held = append(line, held, &buffer[at..e]);
         if e < end {
-            return Line {
+            return Ok(Line {
                 length: held,
                 there: true,
                 ended: true,
                 unread: Unread { at: e + 1, end },
-            };
+            });
         }
         left = Unread { at: end, end };
     }
-    Line {
+    Ok(Line {
         length: held,
         there: 0 < held,
         ended: false,
         unread: left,
+    })
+}
+
+// Fills a buffer as far as the input goes; answers how many bytes there are.
+pub fn read_full<R: Read>(reader: &mut R, buffer: &mut [u8]) -> io::Result<usize>
+    ensures { IfOk result (λ n. n ≤ length buffer.new) }
+{
+    let mut done: usize = 0;
+    while done < buffer.len() {
+        let n = reader.read(&mut buffer[done..])?;
+        if n == 0 {
+            break;
+        }
+        done += n;
     }
+    Ok(done)
 }

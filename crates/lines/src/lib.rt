@@ -1,4 +1,4 @@
-// Line-wise programs: lines read from a file descriptor, their fields, numbers and bytes, and the same printed into a buffer.
+// Line-wise programs: lines read from an input, their fields, numbers and bytes, and the same printed into a buffer.
 #![tactic(auto)]
 
 pub mod field;

@@ -3,6 +3,8 @@ ghost use Rattle.std.specs.Prelude.{◌≡◌, ◌≤◌, length};
 ghost use Rattle.lines.specs.Numbers.{digit_of, leading_zero, number_of, decimal_of};
 ghost use Rattle.lines.specs.Written.{Prints};
 
+use crate::output;
+
 #[derive(Drop)]
 pub enum Number {
     Value(u32),
@@ -72,7 +74,7 @@ pub(crate) fn put_decimal(n: u64, out: &mut [u8]) -> usize
     requires { 20 ≤ length out.old }
     ensures { Prints (decimal_of n) out.old out.new result }
 {
-    let mut digits = [0u8; 20];
-    let k = io::decimal(n, &mut digits);
-    bytes::copy(&digits[..k], out)
+    let mut digits = itoa::Buffer::new();
+    let text = digits.format(n).as_bytes();
+    output::copy(text, out)
 }

@@ -2,13 +2,23 @@
 ghost use Rattle.std.specs.Prelude.{[], ◌∷◌, ◌++◌, ◌+◌, ◌*◌, ◌≤◌, ◌<◌, length};
 ghost use Rattle.lines.specs.Hex.{hex_of};
 ghost use Rattle.lines.specs.Numbers.{decimal_of};
-ghost use Rattle.lines.specs.Written.{Puts, or_dash, numbered};
+ghost use Rattle.lines.specs.Written.{Prints, Puts, or_dash, numbered};
 
 const BLANK: u8 = 32;
 
 const DASH: u8 = 45;
 
 const NEWLINE: u8 = 10;
+
+// Bytes at the start of a buffer; answers how many there are.
+pub fn copy(bytes: &[u8], out: &mut [u8]) -> usize
+    requires { length bytes.now ≤ length out.old }
+    ensures { Prints bytes.now out.old out.new result }
+{
+    let n = bytes.len();
+    out[..n].copy_from_slice(bytes);
+    n
+}
 
 fn put_byte(out: &mut [u8], at: usize, b: u8) -> usize
     requires { at < length out.old }
@@ -30,7 +40,7 @@ pub fn put_piece(out: &mut [u8], at: usize, piece: &[u8]) -> usize
     requires { at + length piece.now ≤ length out.old }
     ensures { Puts piece.now out.old at out.new result }
 {
-    at + bytes::copy(piece, &mut out[at..])
+    at + copy(piece, &mut out[at..])
 }
 
 pub fn put_digits(out: &mut [u8], at: usize, n: u64) -> usize

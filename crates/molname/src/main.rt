@@ -1,6 +1,8 @@
 // The name of the molfile on standard input.
 #![tactic(auto)]
 
-fn main() {
-    molnaming::run(libc::STDIN_FILENO);
+use std::io;
+
+fn main(rt: HostRuntime) -> io::Result<()> {
+    molnaming::run(&mut rt.stdin(), &mut rt.stdout())
 }

@@ -8,7 +8,7 @@ use native.Mathlib.Omega.{arith}
 use lib.Dec.{eqb}
 use lib.ListN.{length, get_or, drop, drop_of_length-le}
 use lib.Seq.{drop-cons}
-use Rattle.ctfile.specs.Lines.{Line, lines_from, lines_of}
+use Rattle.ctfile.specs.Lines.{lines_from, lines_of}
 
 -- how many lines begin from i on, where one begins at i or not
 abbrev pub begun : List ℕ → Bool → ℕ → ℕ

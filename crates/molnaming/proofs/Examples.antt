@@ -1,12 +1,12 @@
 -- Examples, by computation: the number of a line, the line of a refusal, and what parts records or is one.
-use mathlib.Core.Bool.{Bool, true, false}
+use mathlib.Core.Bool.{true, false}
 use mathlib.Core.List.{List, [], ◌∷◌, ◌++◌}
 use mathlib.Core.Path.{◌≡◌, refl}
 use Prim.Native.Nat.{ℕ}
 use Rattle.lists.specs.Quoted as quoted
 use Rattle.lists.specs.Tests.{every}
 use Rattle.lists.specs.Upto.{from, each}
-use Rattle.ctfile.specs.Lines.{line_bytes, lines_from, lines_of}
+use Rattle.ctfile.specs.Lines.{lines_from, lines_of}
 use Rattle.lines.specs.Fields.{same_bytes}
 use Rattle.lines.specs.Numbers.{digits_to}
 use Rattle.molnaming.specs.Lines.{words_of, line_number, place_of, refused_line}

@@ -1,8 +1,10 @@
-// The programs `molname` and `sdfname` over a file descriptor: a molfile, or records of molfiles, in and a line for each out.
+// The programs `molname` and `sdfname` over a reader and a writer: a molfile, or records of molfiles, in and a line for each out.
 #![tactic(auto)]
 
-use libc::STDOUT_FILENO;
+use lines::input;
 use lines::input::Unread;
+use std::io;
+use std::io::{Read, Write};
 
 mod line;
 mod part;
@@ -18,30 +20,34 @@ const MOST_RECORD: usize = 65541;
 // A name or a refusal and a newline, behind a record's number.
 const LONGEST_LINE: usize = 2071;
 
+// How much of the input is read at once.
+const PIECE: usize = 65536;
+
 // A proved loop has to end, and nothing says that the input does.
 const MOST_RECORDS: u64 = 9223372036854775808;
 
-pub fn run(fd: i32) {
+pub fn run<R: Read, W: Write>(reader: &mut R, writer: &mut W) -> io::Result<()> {
     let mut file = [0u8; MOST_FILE];
-    let n = io::read_full(fd, &mut file);
+    let n = input::read_full(reader, &mut file)?;
     let mut printed = [0u8; LONGEST_LINE];
     let k = line::mol_line(&file[..n], &mut printed);
-    io::write_all(STDOUT_FILENO, &printed[..k]);
+    writer.write_all(&printed[..k])
 }
 
-pub fn run_records(fd: i32) {
-    let mut buffer = io::large_buffer();
+pub fn run_records<R: Read, W: Write>(reader: &mut R, writer: &mut W) -> io::Result<()> {
+    let mut buffer = [0u8; PIECE];
     let mut file = [0u8; MOST_RECORD];
     let mut printed = [0u8; LONGEST_LINE];
     let mut unread = Unread::nothing();
     for done in 0u64..MOST_RECORDS {
-        let r = records::next_record(fd, &mut buffer, unread, &mut file);
+        let r = records::next_record(reader, &mut buffer, unread, &mut file)?;
         if !r.there {
-            return;
+            return Ok(());
         }
         let n = r.length;
         let k = line::record_line(done + 1, &file[..n], &mut printed);
-        io::write_all(STDOUT_FILENO, &printed[..k]);
+        writer.write_all(&printed[..k])?;
         unread = r.unread;
     }
+    Ok(())
 }

@@ -1,11 +1,13 @@
-// Records of molfiles on a file descriptor, parted by lines that begin with $$$$.
-ghost use Rattle.std.specs.Prelude.{cond, [], ◌∷◌, ◌++◌, ◌≡◌, ◌≤◌, length, take};
+// Records of molfiles in an input, parted by lines that begin with $$$$.
+ghost use Rattle.std.specs.Prelude.{cond, [], ◌∷◌, ◌++◌, ◌≡◌, ◌≤◌, length, take, IfOk};
 ghost use Rattle.lines.specs.Gathered.{Inside};
 ghost use Rattle.molnaming.specs.Records.{is_parting, is_blank, all_blank, is_record, with_line};
 
 use crate::part;
 use lines::input::Unread;
 use lines::{field, input};
+use std::io;
+use std::io::Read;
 
 // A record: how many of its bytes there are, and whether it is there or the input had ended.
 #[derive(Drop)]
@@ -89,35 +91,40 @@ fn hold(file: &mut [u8], end: usize, ended: bool) -> usize
 }
 
 // The next record at the start of a buffer, as much of it as tells its name or refusal.
-pub fn next_record(fd: i32, buffer: &mut [u8], unread: Unread, file: &mut [u8]) -> Gathered
+pub fn next_record<R: Read>(
+    reader: &mut R,
+    buffer: &mut [u8],
+    unread: Unread,
+    file: &mut [u8],
+) -> io::Result<Gathered>
     requires { Inside unread buffer.old × (65541 ≤ length file.old) }
-    ensures { (result.length ≤ 65537) × Inside result.unread buffer.new }
+    ensures { IfOk result (λ g. (g.length ≤ 65537) × Inside g.unread buffer.new) }
 {
     let mut left = unread;
     let mut held: usize = 0;
     for _ in 0u64..MOST_LINES {
-        let l = input::next_line(fd, buffer, left, &mut file[held..]);
+        let l = input::next_line(reader, buffer, left, &mut file[held..])?;
         left = l.unread;
         if !l.there {
-            return Gathered {
+            return Ok(Gathered {
                 length: held,
                 there: is_record(&file[..held]),
                 unread: left,
-            };
+            });
         }
         let end = held + l.length;
         if is_parting(&file[held..end]) {
-            return Gathered {
+            return Ok(Gathered {
                 length: held,
                 there: true,
                 unread: left,
-            };
+            });
         }
         held = hold(file, end, l.ended);
     }
-    Gathered {
+    Ok(Gathered {
         length: held,
         there: false,
         unread: left,
-    }
+    })
 }

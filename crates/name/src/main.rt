@@ -1,6 +1,8 @@
 // The name of the card on standard input.
 #![tactic(auto)]
 
-fn main() {
-    naming::run(libc::STDIN_FILENO);
+use std::io;
+
+fn main(rt: HostRuntime) -> io::Result<()> {
+    naming::run(&mut rt.stdin(), &mut rt.stdout())
 }

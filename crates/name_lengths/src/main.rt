@@ -1,18 +1,19 @@
 // The program `name` on inputs of 0, 4,096 and 4,097 bytes.
 #![tactic(auto)]
 
-fn name_file(path: &[u8]) {
-    let fd = os::open_read(path);
-    if fd < 0 {
-        os::fail(path);
-        return;
+use std::fs::File;
+use std::io;
+
+// A file that does not open is named on standard error, and the next one follows.
+fn name_file(rt: &HostRuntime, path: &str) -> io::Result<()> {
+    match File::open(rt, path) {
+        Ok(mut file) => naming::run(&mut file, &mut rt.stdout()),
+        Err(e) => eprintln!(rt; "{path}: {e}"),
     }
-    naming::run(fd);
-    libc::close(fd);
 }
 
-fn main() {
-    name_file(b"empty");
-    name_file(b"longest");
-    name_file(b"too_long");
+fn main(rt: HostRuntime) -> io::Result<()> {
+    name_file(&rt, "empty")?;
+    name_file(&rt, "longest")?;
+    name_file(&rt, "too_long")
 }

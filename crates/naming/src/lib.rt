@@ -1,13 +1,14 @@
-// The program `name` over a file descriptor: a card in, a line out.
+// The program `name` over a reader and a writer: a card in, a line out.
 #![tactic(auto)]
 
 ghost use Rattle.std.specs.Prelude.{◌≡◌, ◌+◌, ◌≤◌, length};
 ghost use Rattle.lines.specs.Written.{Prints};
 ghost use Rattle.naming.specs.Lines.{shown, name_line};
 
-use libc::STDOUT_FILENO;
-use lines::output;
+use lines::{input, output};
 use scallopgrid::Answer;
+use std::io;
+use std::io::{Read, Write};
 
 const ALLOWANCE: u16 = 4096;
 
@@ -39,7 +40,7 @@ pub fn name_line(input: &[u8], printed: &mut [u8]) -> usize
     ensures { Prints (name_line input.now) printed.old printed.new result }
 {
     if MOST_CARD < input.len() {
-        return bytes::copy(b"4 0 0 -\n", printed);
+        return output::copy(b"4 0 0 -\n", printed);
     }
     let mut lent = name_buffer();
     let a = scallopgrid::name_of_card(input, ALLOWANCE, &mut lent);
@@ -60,10 +61,10 @@ fn line_buffer() -> [u8; LONGEST_LINE]
     [0u8; LONGEST_LINE]
 }
 
-pub fn run(fd: i32) {
-    let mut input = input_buffer();
-    let n = io::read_full(fd, &mut input);
+pub fn run<R: Read, W: Write>(reader: &mut R, writer: &mut W) -> io::Result<()> {
+    let mut card = input_buffer();
+    let n = input::read_full(reader, &mut card)?;
     let mut printed = line_buffer();
-    let k = name_line(&input[..n], &mut printed);
-    io::write_all(STDOUT_FILENO, &printed[..k]);
+    let k = name_line(&card[..n], &mut printed);
+    writer.write_all(&printed[..k])
 }

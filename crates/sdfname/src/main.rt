@@ -1,6 +1,8 @@
 // The names of the records on standard input, which lines of $$$$ part.
 #![tactic(auto)]
 
-fn main() {
-    molnaming::run_records(libc::STDIN_FILENO);
+use std::io;
+
+fn main(rt: HostRuntime) -> io::Result<()> {
+    molnaming::run_records(&mut rt.stdin(), &mut rt.stdout())
 }

@@ -1,6 +1,8 @@
 // The program `answers` on real molecules.
 #![tactic(auto)]
 
-fn main() {
-    answering::run(libc::STDIN_FILENO);
+use std::io;
+
+fn main(rt: HostRuntime) -> io::Result<()> {
+    answering::run(&mut rt.stdin(), &mut rt.stdout())
 }
