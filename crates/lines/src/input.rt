@@ -1,5 +1,5 @@
 // Lines of an input, read in large pieces.
-ghost use Rattle.std.specs.Prelude.{◌≡◌, ◌≤◌, min, length, IfOk};
+ghost use Rattle.std.specs.Prelude.{◌≡◌, ◌≤◌, min, length, IfOk, OnErr};
 ghost use Rattle.lines.specs.Gathered.{Appends, Inside};
 
 use crate::field;
@@ -58,7 +58,8 @@ fn append(line: &mut [u8], held: usize, piece: &[u8]) -> usize
 // What is unread, or the next piece of the input where all is handed out: nothing where the input has ended.
 fn filled<R: Read>(reader: &mut R, buffer: &mut [u8], unread: Unread) -> io::Result<Unread>
     requires { Inside unread buffer.old }
-    ensures { IfOk result (λ u. Inside u buffer.new) }
+    ensures ok { IfOk result (λ u. Inside u buffer.new) }
+    ensures err { OnErr result (length buffer.new ≡ length buffer.old) }
 {
     if unread.at < unread.end {
         return Ok(unread);
@@ -75,7 +76,8 @@ pub fn next_line<R: Read>(
     line: &mut [u8],
 ) -> io::Result<Line>
     requires { Inside unread buffer.old }
-    ensures { IfOk result (λ l. (l.length ≤ length line.new) × Inside l.unread buffer.new) }
+    ensures ok { IfOk result (λ l. (l.length ≤ length line.new) × Inside l.unread buffer.new) }
+    ensures err { OnErr result ((length buffer.new ≡ length buffer.old) × (length line.new ≡ length line.old)) }
 {
     let mut left = unread;
     let mut held: usize = 0;
@@ -108,7 +110,8 @@ pub fn next_line<R: Read>(
 
 // Fills a buffer as far as the input goes; answers how many bytes there are.
 pub fn read_full<R: Read>(reader: &mut R, buffer: &mut [u8]) -> io::Result<usize>
-    ensures { IfOk result (λ n. n ≤ length buffer.new) }
+    ensures ok { IfOk result (λ n. n ≤ length buffer.new) }
+    ensures err { OnErr result (length buffer.new ≡ length buffer.old) }
 {
     let mut done: usize = 0;
     while done < buffer.len() {

@@ -1,5 +1,5 @@
 // Records of molfiles in an input, parted by lines that begin with $$$$.
-ghost use Rattle.std.specs.Prelude.{cond, [], ◌∷◌, ◌++◌, ◌≡◌, ◌≤◌, length, take, IfOk};
+ghost use Rattle.std.specs.Prelude.{cond, [], ◌∷◌, ◌++◌, ◌≡◌, ◌≤◌, length, take, IfOk, OnErr};
 ghost use Rattle.lines.specs.Gathered.{Inside};
 ghost use Rattle.molnaming.specs.Records.{is_parting, is_blank, all_blank, is_record, with_line};
 
@@ -98,7 +98,8 @@ pub fn next_record<R: Read>(
     file: &mut [u8],
 ) -> io::Result<Gathered>
     requires { Inside unread buffer.old × (65541 ≤ length file.old) }
-    ensures { IfOk result (λ g. (g.length ≤ 65537) × Inside g.unread buffer.new) }
+    ensures ok { IfOk result (λ g. (g.length ≤ 65537) × Inside g.unread buffer.new) }
+    ensures err { OnErr result ((length buffer.new ≡ length buffer.old) × (length file.new ≡ length file.old)) }
 {
     let mut left = unread;
     let mut held: usize = 0;

@@ -5,7 +5,7 @@ use Rattle.lines.proofs.Putting.{prints_fits}
 use Rattle.molnaming.proofs.run_records.Goals as goal
 
 pub slice_bounds-record_line-end : goal.slice_bounds-record_line-end
-slice_bounds-record_line-end g c = sym (length-take-le _ _ (omega (arith, c.in_ok-r.ensures.0)))
+slice_bounds-record_line-end g c = sym (length-take-le _ _ (omega (arith, c.in_ok-r.ensures.ok.0)))
 
 pub slice_bounds-printed-end : goal.slice_bounds-printed-end
 slice_bounds-printed-end g c = prints_fits _ _ _ _ c.record_line-k.ensures
