@@ -1,6 +1,6 @@
 -- One law of FilingLaws for each return.
-use mathlib.Core.Bool.{Bool}
-use mathlib.Core.Path.{refl, sym, ◌∙◌, ap, subst}
+use mathlib.Core.Bool.{Bool, false}
+use mathlib.Core.Path.{◌≡◌, refl, sym, ◌∙◌, ap, subst}
 use Rattle.molfile.specs.Passing.{ending}
 use Rattle.molfile.specs.Filing.{IsFiled}
 use Rattle.molfile.proofs.FilingLaws.{header_broken, counts_broken, atoms-broken, bonds-broken, ended, drawn-is, filed_broken}
@@ -65,11 +65,12 @@ returns c =
     let A = atoms.ensures.1 in
     let B = bonds.ensures.1 in
     let L = bonds.new in
+    let sound_end : c.properties-end.result.broken ≡ false = cc in
     record {
       stopped = λ x. never (sym x);
       passed = λ x. ended _ _ header.ensures c.if-header.false _ counts.ensures c.if-counts.false _ atoms.ensures.0 c.if-atoms.false _ bonds.ensures.0
-          c.if-bonds.false c.properties-end.result c.properties-end.ensures ∙ ap (λ (x : Bool). ending x c.properties-end.result.place)
-          c.if-end.false;
+          c.if-bonds.false c.properties-end.result c.properties-end.ensures ∙ ap (λ (y : Bool). ending y c.properties-end.result.place)
+          sound_end;
       drawing = λ l m x. drawn-is _ _ header.ensures c.if-header.false _ counts.ensures c.if-counts.false _ atoms.ensures.0 c.if-atoms.false _ bonds.ensures.0 _
           L.one L.two L.codes (A.are l c.if-atoms.false) (B.are m c.if-bonds.false);
       kinds_kept = A.kept;

@@ -17,4 +17,4 @@ returns-then-file-feed-eq-CR c =
 
 pub returns : goal.returns
 returns c =
-    line_bare c.args.file.now c.args.at c.requires _ c.line_feed-feed.ensures c.if-n-feed.false (λ h e. c.if-file-feed-eq-CR.false e)
+    line_bare c.args.file.now c.args.at c.requires _ c.line_feed-feed.ensures c.if-n-feed.false (λ h e. omega arith)
