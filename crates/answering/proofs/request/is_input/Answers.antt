@@ -1,5 +1,5 @@
 use mathlib.Core.Path.{sym, ◌∙◌}
-use Prim.Native.Nat.{◌<◌}
+use Prim.Native.Nat.{◌<◌, ◌≤◌}
 use native.Mathlib.Omega.{arith}
 use lib.ListN.{length}
 use borrow.Author.Tests.{lt-ltb, le-leb, lt-leb}
@@ -18,10 +18,12 @@ pub returns-then-hex-gt-MOST_DIGITS : goal.returns-then-hex-gt-MOST_DIGITS
 unfolding is_input
 returns-then-hex-gt-MOST_DIGITS c =
     let h : 0 < length c.args.hex.now = omega (arith, c.if-hex-eq0.false) in
-    rw (sym c.is_word.ensures ∙ c.if-is_word.false, lt-ltb _ _ h, lt-leb _ _ c.if-hex-gt-MOST_DIGITS.true)
+    let long : 131200 < length c.args.hex.now = omega arith in
+    rw (sym c.is_word.ensures ∙ c.if-is_word.false, lt-ltb _ _ h, lt-leb _ _ long)
 
 pub returns : goal.returns
 unfolding is_input
 returns c =
     let h : 0 < length c.args.hex.now = omega (arith, c.if-hex-eq0.false) in
-    c.is_hex.ensures ∙ rw (sym c.is_word.ensures ∙ c.if-is_word.false, lt-ltb _ _ h, le-leb _ _ c.if-hex-gt-MOST_DIGITS.false)
+    let short : length c.args.hex.now ≤ 131200 = omega arith in
+    c.is_hex.ensures ∙ rw (sym c.is_word.ensures ∙ c.if-is_word.false, lt-ltb _ _ h, le-leb _ _ short)
