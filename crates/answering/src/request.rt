@@ -7,7 +7,7 @@ use lines::number::Number;
 use lines::{field, hex, number};
 
 // What is asked.
-#[derive(Drop)]
+#[derive(Clone, Copy, Drop)]
 pub enum Op {
     Name,
     Read,
@@ -16,13 +16,13 @@ pub enum Op {
     Mol,
 }
 
-#[derive(Drop)]
+#[derive(Clone, Copy, Drop)]
 pub enum Word {
     Known(Op),
     Unknown,
 }
 
-#[derive(Drop)]
+#[derive(Clone, Copy, Drop)]
 pub enum Request {
     Asks { op: Op, allowance: u16, room: usize },
     Broken,

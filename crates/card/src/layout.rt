@@ -4,7 +4,7 @@ ghost use Rattle.card.specs.Tests.{IsLength, AreFields};
 
 use table::Table;
 
-#[derive(Drop)]
+#[derive(Clone, Copy, Drop)]
 pub struct Fields {
     pub sound: bool,
     pub atoms: usize,

@@ -17,7 +17,7 @@ pub mod layout;
 mod writing;
 
 // A refusal, 0 where there is none, and then the table.
-#[derive(Drop)]
+#[derive(Clone, Copy, Drop)]
 pub struct CardRead {
     pub refusal: u8,
     pub table: Table,

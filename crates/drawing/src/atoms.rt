@@ -7,7 +7,7 @@ use super::Limits;
 use table::Table;
 
 // The atoms as a table without bonds, and by place in the file the number that an atom there has in it.
-#[derive(Drop)]
+#[derive(Clone, Copy, Drop)]
 pub struct Bare {
     pub table: Table,
     pub numbers: [u8; Limits::ATOMS],

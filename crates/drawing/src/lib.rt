@@ -14,7 +14,7 @@ mod counts;
 mod hydrogens;
 
 // The arrays of a drawing: a counts line has three columns for the atoms and three for the bonds.
-#[derive(Drop)]
+#[derive(Clone, Copy, Drop)]
 pub struct Limits {}
 
 impl Limits {
@@ -24,7 +24,7 @@ impl Limits {
 }
 
 // A refusal, 0 where there is none, and then the table.
-#[derive(Drop)]
+#[derive(Clone, Copy, Drop)]
 pub struct Folded {
     pub refusal: u8,
     pub table: Table,

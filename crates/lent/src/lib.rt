@@ -4,7 +4,7 @@
 ghost use Rattle.lent.specs.Written.{Written};
 
 // A refusal with length 0, or 0 with the number of bytes written.
-#[derive(Drop)]
+#[derive(Clone, Copy, Drop)]
 pub struct Output {
     pub refusal: u8,
     pub length: usize,

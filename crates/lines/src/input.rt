@@ -7,14 +7,14 @@ use std::io;
 use std::io::Read;
 
 // The part of the buffer that was read and not handed out yet.
-#[derive(Drop)]
+#[derive(Clone, Copy, Drop)]
 pub struct Unread {
     pub at: usize,
     pub end: usize,
 }
 
 // A line: how many of its bytes there are, whether it is there or the input had ended, and whether a newline ended it.
-#[derive(Drop)]
+#[derive(Clone, Copy, Drop)]
 pub struct Line {
     pub length: usize,
     pub there: bool,

@@ -5,7 +5,7 @@ ghost use Rattle.lines.specs.Written.{Prints};
 
 use crate::output;
 
-#[derive(Drop)]
+#[derive(Clone, Copy, Drop)]
 pub enum Number {
     Value(u32),
     Nothing,

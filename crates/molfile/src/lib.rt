@@ -20,7 +20,7 @@ mod sections;
 const MOST_BYTES: usize = 65536;
 
 // A refusal with its place, or the table of the molecule that the file draws.
-#[derive(Drop)]
+#[derive(Clone, Copy, Drop)]
 pub struct MolfileRead {
     pub refusal: u8,
     pub place: usize,

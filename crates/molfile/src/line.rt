@@ -3,7 +3,7 @@ ghost use Rattle.std.specs.Prelude.{◌≡◌, ◌+◌, ◌≤◌, ◌<◌, leng
 ghost use Rattle.molfile.specs.Cutting.{line_feed, IsLine};
 
 // The offset behind a line's last byte, and that of the next line.
-#[derive(Drop)]
+#[derive(Clone, Copy, Drop)]
 pub struct Line {
     pub end: usize,
     pub next: usize,

@@ -2,14 +2,14 @@
 ghost use Rattle.std.specs.Prelude.{◌≡◌, true};
 
 // The place of the first faulty line of a section, or, where its lines are sound, of the line that follows them.
-#[derive(Drop)]
+#[derive(Clone, Copy, Drop)]
 pub struct Passage {
     pub broken: bool,
     pub place: usize,
 }
 
 // The passage of the counts line, or of the whole file, with the numbers of atoms and bonds.
-#[derive(Drop)]
+#[derive(Clone, Copy, Drop)]
 pub struct Counted {
     pub broken: bool,
     pub place: usize,

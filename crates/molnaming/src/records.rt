@@ -10,7 +10,7 @@ use std::io;
 use std::io::Read;
 
 // A record: how many of its bytes there are, and whether it is there or the input had ended.
-#[derive(Drop)]
+#[derive(Clone, Copy, Drop)]
 pub struct Gathered {
     pub length: usize,
     pub there: bool,

@@ -13,7 +13,7 @@ use crate::tally::Tally;
 use table::Table;
 
 // An end of a new bond: the kind of the atom there, its hydrogens and its bonds before.
-#[derive(Drop)]
+#[derive(Clone, Copy, Drop)]
 pub struct End {
     pub kind: u8,
     pub hydrogens: u8,

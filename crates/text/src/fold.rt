@@ -10,7 +10,7 @@ use crate::state::{State, narrow, wide};
 use table::{AtomNo, Table, rows};
 
 // The atoms of a text as a table without bonds, and by place the number that an atom there has in it.
-#[derive(Drop)]
+#[derive(Clone, Copy, Drop)]
 pub struct Bare {
     pub table: Table,
     pub numbers: [u8; State::PLACES],

@@ -20,7 +20,7 @@ pub enum Item {
 }
 
 // The item at an offset with the offset behind it, or broken.
-#[derive(Drop)]
+#[derive(Clone, Copy, Drop)]
 pub enum Scanned {
     Got(Item, usize),
     Broken,

@@ -20,7 +20,7 @@ mod tally;
 mod target;
 
 // A refusal with its place, an offset in the text; or refusal 0 and place 0 with the length of the card.
-#[derive(Drop)]
+#[derive(Clone, Copy, Drop)]
 pub struct Answer {
     pub refusal: u8,
     pub place: usize,

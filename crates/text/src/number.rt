@@ -3,7 +3,7 @@ ghost use Rattle.std.specs.Prelude.{◌≡◌, ◌≤◌, ◌<◌, length};
 ghost use Rattle.text.specs.Scanning.{Digit, NumberRead};
 
 // A number's value with its bytes, or none.
-#[derive(Drop)]
+#[derive(Clone, Copy, Drop)]
 pub enum Number {
     Value { value: u16, bytes: usize },
     Nothing,

@@ -11,7 +11,7 @@ use crate::state::{State, resolved, state_of};
 use crate::tally::Tally;
 
 // A refusal with the offset of the item's first byte, or refusal 0 with all items read.
-#[derive(Drop)]
+#[derive(Clone, Copy, Drop)]
 pub struct Reading {
     pub refusal: u8,
     pub place: usize,

@@ -6,7 +6,7 @@ use crate::item::{Place, Target};
 use crate::number::{Number, number_at};
 
 // A target with the offset behind it, or none.
-#[derive(Drop)]
+#[derive(Clone, Copy, Drop)]
 pub enum Aim {
     Found(Target, usize),
     Astray,

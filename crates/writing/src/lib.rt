@@ -42,7 +42,7 @@ impl Pen {
 }
 
 // A bond on its way to be traced, from the first atom to the second.
-#[derive(Drop)]
+#[derive(Clone, Copy, Drop)]
 struct Bond {
     pub one: AtomNo,
     pub two: AtomNo,
