@@ -55,7 +55,8 @@ fn append(line: &mut [u8], held: usize, piece: &[u8]) -> usize
     next
 }
 
-// What is unread, or the next piece of the input where all is handed out: nothing where the input has ended.
+// What is unread, or the next piece of the input where all is handed out: nothing where the input has ended. An error is
+// the reader's own, here and below, and leaves open which bytes the buffers have.
 fn filled<R: Read>(reader: &mut R, buffer: &mut [u8], unread: Unread) -> io::Result<Unread>
     requires { Inside unread buffer.old }
     ensures ok { IfOk result (λ u. Inside u buffer.new) }
