@@ -1,8 +1,7 @@
 // The program `answers` over a reader and a writer: for each line that asks, a line that answers.
 #![tactic(auto)]
 
-use lines::input;
-use lines::input::Unread;
+use lines::input::{Lines, MOST_TURNS, PIECE};
 use std::io;
 use std::io::{Read, Write};
 
@@ -18,27 +17,18 @@ const MOST_INPUT: usize = 65600;
 // Four numbers with a blank each, 4,096 bytes in hexadecimal and a newline, with a byte to spare.
 const LONGEST_ANSWER: usize = 8278;
 
-// How much of the input is read at once.
-const PIECE: usize = 65536;
-
-// A proved loop has to end, and nothing says that the input does.
-const MOST_LINES: u64 = 9223372036854775808;
-
 pub fn run<R: Read, W: Write>(reader: &mut R, writer: &mut W) -> io::Result<()> {
     let mut buffer = [0u8; PIECE];
+    let mut lines = Lines::new(reader, &mut buffer);
     let mut line = [0u8; LONGEST_LINE];
     let mut input = [0u8; MOST_INPUT];
     let mut printed = [0u8; LONGEST_ANSWER];
-    let mut unread = Unread::nothing();
-    for _ in 0u64..MOST_LINES {
-        let l = input::next_line(reader, &mut buffer, unread, &mut line)?;
-        if !l.there {
+    for _ in 0..MOST_TURNS {
+        let Some(l) = lines.next_line(&mut line)? else {
             return Ok(());
-        }
-        let n = l.length;
-        let k = answer::answer(&line[..n], &mut input, &mut printed);
+        };
+        let k = answer::answer(&line[..l.length], &mut input, &mut printed);
         writer.write_all(&printed[..k])?;
-        unread = l.unread;
     }
     Ok(())
 }

@@ -31,7 +31,7 @@ pub record Bonded (n : ℕ) (bs : List Bond) (t : Table) : Type 0 where
   pub degree : (x : ℕ) → x < n → length (neighbours (view_of t) x) ≡ count (map (on x) bs)
   pub paired : (x y : ℕ) → some (map (joins x y) bs) ≡ not (eqb (code_in bs x y) 0)
 
-pub bonded-none : (t : Table) → TidyTable t → ((a : ℕ) → a < t.n → get_or t.degrees a 0 ≡ 0) → Bonded t.n [] t
+pub bonded-none : (t : Table) → TidyTable t → ((a : ℕ) → a < t.n → get_or t.rows.degrees a 0 ≡ 0) → Bonded t.n [] t
 unfolding some
 bonded-none t T z = record {
   tidy = T;
@@ -44,7 +44,7 @@ bonded-none t T z = record {
 module _ (n : ℕ) (bs : List Bond) (t : Table) (H : Bonded n bs t) where
   -- other hydrogens change no bond
   pub bonded-counted : (hs : List ℕ) → length hs ≡ 64
-      → Bonded n bs (record { n = t.n; kinds = t.kinds; hydrogens = hs; degrees = t.degrees; near = t.near; codes = t.codes })
+      → Bonded n bs (record { n = t.n; kinds = t.kinds; hydrogens = hs; rows = t.rows })
   unfolding as_molecule neighbours
   bonded-counted hs e = record {
     tidy =
@@ -68,21 +68,21 @@ module _ (n : ℕ) (bs : List Bond) (t : Table) (H : Bonded n bs t) where
   }
 
   module _ (b : Bond) where
-    degree-counts : (x : ℕ) → x < n → get_or t.degrees x 0 ≡ count (map (on x) bs)
+    degree-counts : (x : ℕ) → x < n → get_or t.rows.degrees x 0 ≡ count (map (on x) bs)
     degree-counts x h = sym (degree-row (arrays_of t) H.tidy x (omega (arith, H.size))) ∙ H.degree x h
 
-    pair_found : (x y : ℕ) → x < n → y < n → not (eqb (code_found t.degrees t.near t.codes x y) 0) ≡ some (map (joins x y) bs)
+    pair_found : (x y : ℕ) → x < n → y < n → not (eqb (code_found t.rows.degrees t.rows.near t.rows.codes x y) 0) ≡ some (map (joins x y) bs)
     unfolding as_molecule
     pair_found x y h l = ap (λ (v : ℕ). not (eqb v 0)) (H.code x y h l) ∙ sym (H.paired x y)
 
     -- the test over the table's arrays is that of the rules over the bonds before
-    pub bonded-tested : bond_tested n t.degrees t.near t.codes b ≡ bond_judged n bs b
+    pub bonded-tested : bond_tested n t.rows.degrees t.rows.near t.rows.codes b ≡ bond_judged n bs b
     unfolding bond_tested
     bonded-tested = go (leb n b.one || leb n b.two) refl
       where
         go : (p : Bool) → (leb n b.one || leb n b.two) ≡ p
-            → cond {A = ℕ} p 5 (cond (eqb b.one b.two || not (eqb (code_found t.degrees t.near t.codes b.one b.two) 0) || eqb b.code 0 || ltb 4 b.code) 6
-            (cond (leb 6 (get_or t.degrees b.one 0) || leb 6 (get_or t.degrees b.two 0)) 4 0))
+            → cond {A = ℕ} p 5 (cond (eqb b.one b.two || not (eqb (code_found t.rows.degrees t.rows.near t.rows.codes b.one b.two) 0) || eqb b.code 0 || ltb 4 b.code) 6
+            (cond (leb 6 (get_or t.rows.degrees b.one 0) || leb 6 (get_or t.rows.degrees b.two 0)) 4 0))
             ≡ cond p 5 (cond (eqb b.one b.two || some (map (joins b.one b.two) bs) || eqb b.code 0 || ltb 4 b.code) 6
             (cond (leb 6 (count (map (on b.one) bs)) || leb 6 (count (map (on b.two) bs))) 4 0))
         go true e = refl

@@ -5,21 +5,21 @@ use mathlib.Core.Logic.{◌≢◌}
 use mathlib.Core.Path.{◌≡◌, sym, ◌∙◌, ap, subst}
 use Prim.Native.Nat.{ℕ, ◌+◌, ◌*◌, ◌<◌, ◌≤◌}
 use native.Mathlib.Omega.{arith}
-use lib.ListN.{length, get_or}
+use lib.ListN.{get_or}
 use Rattle.molecule.specs.Bonds.{Bond}
 use Rattle.molecule.specs.Layout.{atoms_length, in_layout, atom_count, bond_count, bond_at}
 use Rattle.molecule.specs.Judged.{bond_fault, bonds_fault}
 use Rattle.table.specs.declared.Table.{Table}
-use Rattle.table.specs.Arrays.{HasRow}
 use Rattle.table.specs.View.{arrays_of, view_of}
-use Rattle.table.specs.Changes.{bond_of, RowArrays, RoomFor, BondPut}
-use Rattle.table.proofs.Views.{tidy-row}
-use Rattle.table.proofs.Halves.{rows_of}
+use Rattle.table.specs.declared.rows.Rows.{Rows}
+use Rattle.table.specs.Changes.{bond_of, RoomFor, BondPut}
 use Rattle.table.proofs.Joins.{Joinable, Joined, rowed, bond-roomy, bond-joins}
-use Rattle.card.specs.declared.CardRead.{CardRead}
+use Rattle.std.specs.Prelude.{Result, Ok, Err}
+use Rattle.refusal.specs.declared.Refusal.{Refusal}
+use Rattle.refusal.specs.Numbers.{number_of}
 use Rattle.card.specs.Tests.{bond_tested}
 use Rattle.card.specs.Reading.{Holds, BondsRead}
-use Rattle.card.proofs.Faults.{Rest, rest_start, rest_stop, rest_next, rest_end}
+use Rattle.card.proofs.Faults.{number_of-some, Rest, rest_start, rest_stop, rest_next, rest_end}
 use Rattle.card.proofs.Layouts.{laid}
 use Rattle.card.proofs.Holding.{tested_judged, holds_joinable, holds_bond}
 
@@ -45,26 +45,20 @@ module _ (s : List ℕ) where
     unfolding bond_at
     bond-is = let p : place ≡ atoms_length s + 3 * k + 6 = omega (arith, e, (laid s laid_out).atoms) in ap bond_in p
 
-    pub bonding_rows : (x : ℕ) → x < n → HasRow t.degrees t.near x
-    bonding_rows x h = tidy-row (arrays_of t) B.holds.tidy x (omega (arith, e, B.holds.size))
-
-    pub bonding_inside : k < bond_count s → place + 2 < length s
-    bonding_inside l = omega (arith, e, (laid s laid_out).long)
-
-    judged : bond_tested n t.degrees t.near t.codes (bond_in place) ≡ bond_fault s k
+    judged : bond_tested n t.rows.degrees t.rows.near t.rows.codes (bond_in place) ≡ bond_fault s k
     judged =
-        ap (λ (m : ℕ). bond_tested m t.degrees t.near t.codes (bond_in place)) e
-        ∙ ap (bond_tested (atom_count s) t.degrees t.near t.codes) bond-is ∙ tested_judged s k t B.holds
+        ap (λ (m : ℕ). bond_tested m t.rows.degrees t.rows.near t.rows.codes (bond_in place)) e
+        ∙ ap (bond_tested (atom_count s) t.rows.degrees t.rows.near t.rows.codes) bond-is ∙ tested_judged s k t B.holds
 
-    bonding_joinable : bond_tested n t.degrees t.near t.codes (bond_in place) ≡ 0 → Joinable (view_of t) (bond_in place)
+    bonding_joinable : bond_tested n t.rows.degrees t.rows.near t.rows.codes (bond_in place) ≡ 0 → Joinable (view_of t) (bond_in place)
     bonding_joinable z = subst (Joinable (view_of t)) (sym bond-is) (holds_joinable s k t B.holds (sym judged ∙ z))
 
-    pub bonding_roomy : bond_tested n t.degrees t.near t.codes (bond_in place) ≡ 0
-        → RoomFor (rows_of (arrays_of t)) (get_or s place 0) × RoomFor (rows_of (arrays_of t)) (get_or s (place + 1) 0) × (get_or s place 0 ≢ get_or s (place + 1) 0)
+    pub bonding_roomy : bond_tested n t.rows.degrees t.rows.near t.rows.codes (bond_in place) ≡ 0
+        → RoomFor t.rows (get_or s place 0) × RoomFor t.rows (get_or s (place + 1) 0) × (get_or s place 0 ≢ get_or s (place + 1) 0)
     bonding_roomy z = bond-roomy (arrays_of t) B.holds.tidy (get_or s place 0) (get_or s (place + 1) 0) (get_or s (place + 2) 0) (bonding_joinable z)
 
-    pub bonding_next : k < bond_count s → bond_tested n t.degrees t.near t.codes (bond_in place) ≡ 0
-        → (R : RowArrays) → BondPut (rows_of (arrays_of t)) (get_or s place 0) (get_or s (place + 1) 0) (get_or s (place + 2) 0) R → Bonding s (rowed t R) (k + 1)
+    pub bonding_next : k < bond_count s → bond_tested n t.rows.degrees t.rows.near t.rows.codes (bond_in place) ≡ 0
+        → (R : Rows) → BondPut t.rows (get_or s place 0) (get_or s (place + 1) 0) (get_or s (place + 2) 0) R → Bonding s (rowed t R) (k + 1)
     bonding_next l z R P =
         let w = bond-joins (arrays_of t) B.holds.tidy (get_or s place 0) (get_or s (place + 1) 0) (get_or s (place + 2) 0) (bonding_joinable z) R P in
         record {
@@ -73,19 +67,17 @@ module _ (s : List ℕ) where
           rest = B.rest ∙ rest_next (bond_fault s) (bond_count s) k l (sym judged ∙ z);
         }
 
-    pub bonding_stop : k < bond_count s → (r : CardRead) (fault : ℕ) → fault ≡ bond_tested n t.degrees t.near t.codes (bond_in place) → fault ≢ 0
-        → r.refusal ≡ fault → BondsRead s r
-    bonding_stop l r fault g z q = record {
+    pub bonding_stop : k < bond_count s → (q : Result Unit Refusal) (r : Refusal) → q ≡ Err r
+        → number_of r ≡ bond_tested n t.rows.degrees t.rows.near t.rows.codes (bond_in place) → BondsRead s t q
+    bonding_stop l q r e g = rw e (record {
       refusal =
-          let w : bond_fault s k ≢ 0 = λ x. z (g ∙ judged ∙ x) in
-          q ∙ g ∙ judged ∙ sym (B.rest ∙ rest_stop (bond_fault s) (bond_count s) k l w);
-      table = λ x. absurd (z (sym q ∙ x));
-    }
+          let w : bond_fault s k ≢ 0 = λ x. number_of-some r (g ∙ judged ∙ x) in
+          g ∙ judged ∙ sym (B.rest ∙ rest_stop (bond_fault s) (bond_count s) k l w);
+      table = tt;
+    })
 
-  pub bonding_done : (t : Table) (k : ℕ) → Bonding s t k → bond_count s ≤ k → BondsRead s (record { refusal = 0; table = t })
-  bonding_done t k B l =
-      let e : k ≡ bond_count s = omega (arith, B.few) in
-      record {
-        refusal = sym (B.rest ∙ rest_end (bond_fault s) (bond_count s) k l);
-        table = λ x. subst (λ (j : ℕ). Holds s (atom_count s) j t) e B.holds;
-      }
+  pub bonding_done : (t : Table) (k : ℕ) → Bonding s t k → k ≡ bond_count s → BondsRead s t (Ok tt)
+  bonding_done t k B e = record {
+    refusal = sym (B.rest ∙ rest_end (bond_fault s) (bond_count s) k (omega arith));
+    table = subst (λ (j : ℕ). Holds s (atom_count s) j t) e B.holds;
+  }

@@ -6,7 +6,7 @@ use Prim.Native.Nat.{ℕ, zero, suc, ◌+◌, ◌*◌, ◌/◌, ◌%◌, ◌<◌
 use native.Mathlib.Omega.{arith}
 use lib.Dec.{ltb}
 use lib.ListN.{length, get_or, take, drop, length-append}
-use lib.Seq.{sets-eq, take-suc, take-length}
+use lib.Seq.{sets, sets-eq, take-suc, take-length}
 use Rattle.lists.specs.Upto.{upto, each, sum}
 use Rattle.lists.specs.Tests.{keep}
 use Rattle.lists.proofs.Upto.{each-eq}
@@ -15,13 +15,16 @@ use Rattle.lists.proofs.Steps.{each-zero, keep_append, flatten_append, flatten_n
 use Rattle.molecule.specs.Written.{field, atom_bytes, bond_bytes, card_bytes}
 use Rattle.lists.proofs.Upto.{length-upto}
 use Rattle.lists.proofs.Flattened.{length-pieces}
-use Rattle.table.specs.Arrays.{Arrays, Tidy, HasRow, row_in, as_molecule}
+use Rattle.table.specs.Arrays.{Arrays, Tidy, row_in, as_molecule}
 use Rattle.table.proofs.RowLaws.{row_at}
 use Rattle.table.proofs.Views.{near-long, code-slot, neighbours-row, tidy-row}
+use Rattle.std.specs.Prelude.{Ok, Err}
+use Rattle.refusal.specs.declared.Refusal.TheVariants.{NoRoom}
 use Rattle.lent.specs.Written.{Written}
 use Rattle.lent.proofs.Outcomes.{too_short, written}
-use Rattle.card.specs.Writing.{atom_piece, bond_piece, slot_piece, row_bytes, row_length, Wrote}
-use Rattle.card.proofs.Written.{wrote_more, pieces_length}
+use Rattle.card.specs.declared.writing.Writer.{Writer}
+use Rattle.card.specs.Writing.{atom_piece, bond_piece, slot_piece, row_bytes, row_length, PutIn}
+use Rattle.card.proofs.Written.{put_more, pieces_length}
 use Rattle.card.proofs.Lengths.{row_low, row-length}
 
 module _ (t : Arrays) (T : Tidy t) where
@@ -79,9 +82,6 @@ module _ (t : Arrays) (T : Tidy t) where
       ∙ sum-eq t.n (row_length t.degrees t.near) (λ a. length (row_bytes t.degrees t.near t.codes a)) (λ a h. sym (row-length t.degrees t.near t.codes a))
       ∙ sym (pieces_length (row_bytes t.degrees t.near t.codes) t.n)
 
-  pub rows-there : (a : ℕ) → a < t.n → HasRow t.degrees t.near a
-  rows-there a h = tidy-row t T a h
-
   module _ (b : ℕ) (e : b ≡ sum (each t.n (row_length t.degrees t.near))) where
     pub bonds-few : b ≤ 1152
     bonds-few =
@@ -89,7 +89,7 @@ module _ (t : Arrays) (T : Tidy t) where
           arith,
           e,
           T.atoms,
-          sum-le t.n (row_length t.degrees t.near) (λ a. 18) (λ a h. row_low t.degrees t.near a (rows-there a h)),
+          sum-le t.n (row_length t.degrees t.near) (λ a. 18) (λ a h. row_low t.degrees t.near a (tidy-row t T a h)),
           sum-const t.n 18,
         )
 
@@ -100,7 +100,7 @@ module _ (t : Arrays) (T : Tidy t) where
     unfolding field
     card-long = ap length card-is ∙ length-append (field 1 atoms_in) (field 2 bonds_in) ∙ omega (arith, atoms-long, bonds-long b e)
 
-    pub card-short : (out : List ℕ) → length out < 2 * t.n + b + 6 → Written (card_bytes (as_molecule t)) out out (record { refusal = 10; length = 0 })
+    pub card-short : (out : List ℕ) → length out < 2 * t.n + b + 6 → Written (card_bytes (as_molecule t)) out out (Err NoRoom)
     card-short out h = too_short (card_bytes (as_molecule t)) out (subst (λ (k : ℕ). length out < k) (sym card-long) h)
 
     -- the head of a field
@@ -113,17 +113,18 @@ module _ (t : Arrays) (T : Tidy t) where
         append_assoc (head 1 (2 * t.n) ++ atoms_in) (head 2 b) bonds_in
         ∙ ap₂ (λ (k m : ℕ). (head 1 k ++ atoms_in) ++ (head 2 m ++ bonds_in)) (sym atoms-long) (bonds-long b e) ∙ sym card-is
 
-    module _ (out o₁ o₂ o₃ o₄ : List ℕ) (i₁ i₂ i₃ i₄ : ℕ) (W₁ : Wrote out 0 (head 1 (2 * t.n)) o₁ i₁) (W₂ : Wrote o₁ i₁ atoms_in o₂ i₂) (W₃ : Wrote o₂ i₂ (head 2 b) o₃ i₃)
-        (W₄ : Wrote o₃ i₃ bonds_in o₄ i₄) where
-      all : Wrote out 0 (card_bytes (as_molecule t)) o₄ i₄
+    module _ (w w₁ w₂ w₃ w₄ : Writer) (P₁ : PutIn w (head 1 (2 * t.n)) w₁) (P₂ : PutIn w₁ atoms_in w₂) (P₃ : PutIn w₂ (head 2 b) w₃) (P₄ : PutIn w₃ bonds_in w₄) where
+      all : PutIn w (card_bytes (as_molecule t)) w₄
       all =
-          subst (λ (bs : List ℕ). Wrote out 0 bs o₄ i₄) joined
-          (wrote_more out o₃ o₄ 0 i₃ i₄ _ bonds_in (wrote_more out o₂ o₃ 0 i₂ i₃ _ (head 2 b) (wrote_more out o₁ o₂ 0 i₁ i₂ (head 1 (2 * t.n)) atoms_in W₁ W₂) W₃) W₄)
+          subst (λ (bs : List ℕ). PutIn w bs w₄) joined
+          (put_more w w₃ w₄ _ bonds_in (put_more w w₂ w₃ _ (head 2 b) (put_more w w₁ w₂ (head 1 (2 * t.n)) atoms_in P₁ P₂) P₃) P₄)
 
-      pub card-written : 2 * t.n + b + 6 ≤ length out → Written (card_bytes (as_molecule t)) out o₄ (record { refusal = 0; length = 2 * t.n + b + 6 })
-      card-written h =
-          let k : length (card_bytes (as_molecule t)) ≤ length out = subst (λ (k : ℕ). k ≤ length out) (sym card-long) h in
-          let z : 0 + length (card_bytes (as_molecule t)) ≡ length (card_bytes (as_molecule t)) = omega arith in
-          let m : 0 + length (card_bytes (as_molecule t)) ≤ length out = omega arith in
-          written (card_bytes (as_molecule t)) out _ o₄ (sym card-long) k
-          (all.is ∙ sets-eq (card_bytes (as_molecule t)) out 0 m ∙ ap (λ (k : ℕ). card_bytes (as_molecule t) ++ drop k out) z)
+      pub card-written : (out : List ℕ) → out ≡ w₄.out.now → w.at ≡ 0 → 2 * t.n + b + 6 ≤ length w.out.now
+          → Written (card_bytes (as_molecule t)) w.out.now out (Ok (2 * t.n + b + 6))
+      card-written out e z h =
+          let k : length (card_bytes (as_molecule t)) ≤ length w.out.now = subst (λ (k : ℕ). k ≤ length w.out.now) (sym card-long) h in
+          let y : 0 + length (card_bytes (as_molecule t)) ≡ length (card_bytes (as_molecule t)) = omega arith in
+          let m : 0 + length (card_bytes (as_molecule t)) ≤ length w.out.now = omega arith in
+          written (card_bytes (as_molecule t)) w.out.now _ out (sym card-long) k
+          (e ∙ all.wrote.is ∙ ap (λ (i : ℕ). sets w.out.now i (card_bytes (as_molecule t))) z ∙ sets-eq (card_bytes (as_molecule t)) w.out.now 0 m
+          ∙ ap (λ (k : ℕ). card_bytes (as_molecule t) ++ drop k w.out.now) y)

@@ -6,6 +6,23 @@ use Prim.Native.Nat.{ℕ, zero, suc, ◌+◌, ◌-◌, ◌<◌, ◌≤◌}
 use native.Mathlib.Omega.{arith}
 use Rattle.lists.specs.Upto.{from, each}
 use Rattle.molecule.specs.Refusals.{or_next, first_fault}
+use Rattle.refusal.specs.declared.Refusal.{Refusal}
+use Rattle.refusal.specs.declared.Refusal.TheVariants.{NoAtoms, Malformed, UnknownKind, OverLimit, NotThere, WrongBond, WrongHydrogen, NotConnected, OverAllowance, NoRoom, BrokenLine}
+use Rattle.refusal.specs.Numbers.{number_of}
+
+-- no refusal has the number of acceptance
+pub number_of-some : (r : Refusal) → number_of r ≢ 0
+number_of-some NoAtoms e = omega arith
+number_of-some Malformed e = omega arith
+number_of-some UnknownKind e = omega arith
+number_of-some OverLimit e = omega arith
+number_of-some NotThere e = omega arith
+number_of-some WrongBond e = omega arith
+number_of-some WrongHydrogen e = omega arith
+number_of-some NotConnected e = omega arith
+number_of-some OverAllowance e = omega arith
+number_of-some NoRoom e = omega arith
+number_of-some BrokenLine e = omega arith
 
 abbrev pub Rest : (ℕ → ℕ) → ℕ → ℕ → ℕ
 Rest f n k = first_fault (map f (from k (n - k)))

@@ -1,7 +1,7 @@
 -- The table while a card is read: empty, with one more atom, with one more bond, and with all of them.
 use mathlib.Core.Bool.{not}
 use mathlib.Core.List.{List, [], ◌∷◌, ◌++◌, map}
-use mathlib.Core.Path.{◌≡◌, refl, sym, ◌∙◌, ap, subst}
+use mathlib.Core.Path.{◌≡◌, sym, ◌∙◌, ap, subst}
 use Prim.Native.Nat.{ℕ, suc, ◌+◌, ◌<◌, ◌≤◌}
 use native.Mathlib.Decide.{ℕ_discrete}
 use native.Mathlib.Omega.{arith}
@@ -43,32 +43,32 @@ module _ (s : List ℕ) where
   unfolding some
   no_pair x y = ap (λ (bs : List Bond). some (map (joins x y) bs)) no_bonds ∙ ap (λ (v : ℕ). not (eqb v 0)) (sym (no_code x y))
 
-  pub holds_none : (t : Table) → t.n ≡ 0 → TidyTable t → Holds s t.n 0 t
+  pub holds_none : (t : Table) → t.n ≡ 0 → TidyTable t → Holds s 0 0 t
   holds_none t e T = record {
     tidy = T;
-    size = refl;
-    label = λ a h. absurd (omega (arith, e));
-    code = λ x y h k. absurd (omega (arith, e));
-    degree = λ x h. absurd (omega (arith, e));
+    size = e;
+    label = λ a h. absurd (omega arith);
+    code = λ x y h k. absurd (omega arith);
+    degree = λ x h. absurd (omega arith);
     paired = no_pair;
   }
 
-  pub holds_atom : (t t' : Table) (k h : ℕ) → Holds s t.n 0 t → TidyTable t' → Grown (view_of t) k h (view_of t') → k ≡ kind_at s t.n → h ≡ hydrogens_at s t.n
-      → Holds s t'.n 0 t'
+  pub holds_atom : (n : ℕ) (t t' : Table) (k h : ℕ) → Holds s n 0 t → TidyTable t' → Grown (view_of t) k h (view_of t') → k ≡ kind_at s n → h ≡ hydrogens_at s n
+      → Holds s (t.n + 1) 0 t'
   unfolding as_molecule
-  holds_atom t t' k h H T G e f = record {
+  holds_atom n t t' k h H T G e f = record {
     tidy = T;
-    size = refl;
-    label = λ a l. label a (omega (arith, G.size)) (ℕ_discrete a t.n);
-    code = λ x y l m. code x y (omega (arith, G.size)) (omega (arith, G.size)) (ℕ_discrete x t.n) (ℕ_discrete y t.n) ∙ sym (no_code x y);
-    degree = λ x l. degree x (omega (arith, G.size)) (ℕ_discrete x t.n) ∙ sym (no_degree x);
+    size = omega (arith, G.size);
+    label = λ a l. label a (omega arith) (ℕ_discrete a t.n);
+    code = λ x y l m. code x y (omega arith) (omega arith) (ℕ_discrete x t.n) (ℕ_discrete y t.n) ∙ sym (no_code x y);
+    degree = λ x l. degree x (omega arith) (ℕ_discrete x t.n) ∙ sym (no_degree x);
     paired = no_pair;
   }
     where
       label : (a : ℕ) → a ≤ t.n → Dec (a ≡ t.n) → (view_of t').label a ≡ kind_at s a ∷ hydrogens_at s a ∷ []
       label a l (yes q) =
-          ap (view_of t').label q ∙ G.last ∙ (λ i. e i ∷ f i ∷ []) ∙ ap (λ (b : ℕ). kind_at s b ∷ hydrogens_at s b ∷ []) (sym q)
-      label a l (no q) = let m : a < t.n = omega arith in G.label a m ∙ H.label a m
+          ap (view_of t').label q ∙ G.last ∙ (λ i. e i ∷ f i ∷ []) ∙ ap (λ (b : ℕ). kind_at s b ∷ hydrogens_at s b ∷ []) (sym (q ∙ H.size))
+      label a l (no q) = let m : a < t.n = omega arith in G.label a m ∙ H.label a (omega (arith, H.size))
 
       code : (x y : ℕ) → x ≤ t.n → y ≤ t.n → Dec (x ≡ t.n) → Dec (y ≡ t.n) → (view_of t').code x y ≡ 0
       code x y l m (yes q) d = ap (λ (z : ℕ). (view_of t').code z y) q ∙ (G.alone y m).1
@@ -76,18 +76,18 @@ module _ (s : List ℕ) where
       code x y l m (no q) (no r) =
           let i : x < t.n = omega arith in
           let j : y < t.n = omega arith in
-          G.code x y i j ∙ H.code x y i j ∙ no_code x y
+          G.code x y i j ∙ H.code x y (omega (arith, H.size)) (omega (arith, H.size)) ∙ no_code x y
 
       degree : (x : ℕ) → x ≤ t.n → Dec (x ≡ t.n) → length (neighbours (view_of t') x) ≡ 0
       degree x l (yes q) = ap (λ (z : ℕ). length (neighbours (view_of t') z)) q ∙ G.none
-      degree x l (no q) = let i : x < t.n = omega arith in G.degree x i ∙ H.degree x i ∙ no_degree x
+      degree x l (no q) = let i : x < t.n = omega arith in G.degree x i ∙ H.degree x (omega (arith, H.size)) ∙ no_degree x
 
   module _ (k : ℕ) (t : Table) (H : Holds s (atom_count s) k t) where
     holds_bonded : Bonded (atom_count s) (bonds_to s k) t
     holds_bonded = record { tidy = H.tidy; size = H.size; code = H.code; degree = H.degree; paired = H.paired }
 
     -- the tests over the table's arrays are those of the rules over the bonds before
-    pub tested_judged : bond_tested (atom_count s) t.degrees t.near t.codes (bond_at s k) ≡ bond_fault s k
+    pub tested_judged : bond_tested (atom_count s) t.rows.degrees t.rows.near t.rows.codes (bond_at s k) ≡ bond_fault s k
     unfolding bond_fault
     tested_judged = bonded-tested (atom_count s) (bonds_to s k) t holds_bonded (bond_at s k)
 

@@ -1,23 +1,29 @@
 -- The reading of a card, put together: the first refusal in the order of document 01 stands.
 use mathlib.Core.Bool.{Bool, true, false, cond, ◌||◌}
 use mathlib.Core.List.{List}
-use mathlib.Core.Logic.{◌≢◌}
-use mathlib.Core.Path.{◌≡◌, refl, sym, ◌∙◌, ap, ap₂}
+use mathlib.Core.Path.{◌≡◌, refl, sym, ◌∙◌, ap}
 use Prim.Native.Nat.{ℕ, zero, suc, ◌<◌, ◌≤◌}
 use native.Mathlib.Omega.{arith}
 use lib.Dec.{eqb, ltb}
 use borrow.Author.Tests.{eqb-false, ltb-false}
 use Rattle.molecule.specs.Molecule.{connected}
 use Rattle.molecule.specs.Refusals.{or_next}
-use Rattle.molecule.specs.Layout.{in_layout, atom_count, bond_count}
+use Rattle.molecule.specs.Layout.{atom_count}
 use Rattle.molecule.specs.Judged.{counts_fault, atoms_fault, total_fault, bonds_fault, apart_fault, content_fault, card_fault}
 use Rattle.molecule.proofs.Sound.{Sound}
 use Rattle.molecule.proofs.Alike.{sound-along}
 use Rattle.molecule.proofs.Checked.{well_formed-sound}
 use Rattle.table.specs.View.{view_of, TidyTable, EvenTable}
-use Rattle.card.specs.declared.CardRead.{CardRead}
-use Rattle.card.specs.Reading.{Holds, AtomsRead, BondsRead, IsRead}
-use Rattle.card.proofs.Faults.{or_next-some, or_next-none}
+use Rattle.std.specs.Prelude.{Option, Some, None, Result, Ok, Err}
+use Rattle.refusal.specs.declared.Refusal.{Refusal}
+use Rattle.refusal.specs.declared.Refusal.TheVariants.{Malformed, NotConnected}
+use Rattle.refusal.specs.Numbers.{number_of}
+use Rattle.table.specs.declared.Table.{Table}
+use Rattle.card.specs.declared.layout.Fields.{Fields}
+use Rattle.card.specs.Tests.{fields_of}
+use Rattle.card.specs.Reading.{AtomsRead, BondsRead, IsRead}
+use Rattle.card.proofs.Faults.{number_of-some, or_next-some, or_next-none}
+use Rattle.card.proofs.Layouts.{fields-sound, fields-broken}
 use Rattle.card.proofs.Holding.{holds_all, holds_even}
 use Rattle.card.proofs.Alike.{connected-alike}
 
@@ -38,65 +44,69 @@ counts_low n m e = go (eqb n 0) (ltb 64 n) refl refl e
     go false false f g e = let z = eqb-false n 0 f in (omega arith, ltb-false 64 n g)
 
 module _ (s : List ℕ) where
-  refuse : (r : CardRead) (v : ℕ) → card_fault s ≡ v → v ≢ 0 → r.refusal ≡ v → IsRead s r
-  refuse r v e z q = record { refusal = q ∙ sym e; tidy = λ x. absurd (z (sym q ∙ x)); view = λ x. absurd (z (sym q ∙ x)) }
+  refuse : (q : Result Table Refusal) (r : Refusal) → q ≡ Err r → card_fault s ≡ number_of r → IsRead s q
+  refuse q r e f = rw e (record { refusal = sym f; tidy = tt; view = tt })
 
-  pub read-broken : in_layout s ≡ false → (r : CardRead) → r.refusal ≡ 2 → IsRead s r
+  pub read-broken : ◌≡◌ {A = Option Fields} None (fields_of s) → IsRead s (Err Malformed)
   unfolding card_fault
-  read-broken e r q = refuse r 2 (ap (λ (b : Bool). cond b (content_fault s) 2) e) (λ x. omega arith) q
+  read-broken e = refuse _ Malformed refl (ap (λ (b : Bool). cond b (content_fault s) 2) (fields-broken s e))
 
-  module _ (L : in_layout s ≡ true) (n m v : ℕ) (e : n ≡ atom_count s) (f : m ≡ bond_count s) (g : v ≡ counts_tested n m) where
-    counts : v ≡ counts_fault s
+  module _ (f : Fields) (F : Some f ≡ fields_of s) where
+    counts : counts_tested f.atoms f.bonds ≡ counts_fault s
     unfolding counts_fault
-    counts = g ∙ ap₂ counts_tested e f
+    counts = ap (λ (g : Fields). counts_tested g.atoms g.bonds) (fields-sound s f F).1
 
     content : card_fault s ≡ or_next (counts_fault s) (or_next (atoms_fault s) (or_next (total_fault s) (or_next (bonds_fault s) (apart_fault s))))
     unfolding card_fault content_fault
-    content = ap (λ (b : Bool). cond b (content_fault s) 2) L
+    content = ap (λ (b : Bool). cond b (content_fault s) 2) (fields-sound s f F).0
 
-    pub read-counts : v ≢ 0 → (r : CardRead) → r.refusal ≡ v → IsRead s r
-    read-counts z r q = refuse r v (content ∙ or_next-some (counts_fault s) _ (λ x. z (counts ∙ x)) ∙ sym counts) z q
+    pub read-counts : (q : Result Table Refusal) (r : Refusal) → q ≡ Err r → number_of r ≡ counts_tested f.atoms f.bonds → IsRead s q
+    read-counts q r e g = refuse q r e (content ∙ or_next-some (counts_fault s) _ (λ x. number_of-some r (g ∙ counts ∙ x)) ∙ sym (g ∙ counts))
 
-    module _ (z : v ≡ 0) (a : CardRead) (A : AtomsRead s a) where
-      after-counts : card_fault s ≡ or_next a.refusal (or_next (bonds_fault s) (apart_fault s))
+    module _ (z : 0 ≡ counts_tested f.atoms f.bonds) where
+      some-atoms : 0 < atom_count s
+      some-atoms = omega (arith, ap (λ (g : Fields). g.atoms) (fields-sound s f F).1, counts_low f.atoms f.bonds (sym z))
+
+      after-counts : card_fault s ≡ or_next (or_next (atoms_fault s) (total_fault s)) (or_next (bonds_fault s) (apart_fault s))
       after-counts =
-          content ∙ or_next-none (counts_fault s) _ (sym counts ∙ z) ∙ or_next-assoc (atoms_fault s) (total_fault s) (or_next (bonds_fault s) (apart_fault s))
-          ∙ ap (λ (w : ℕ). or_next w (or_next (bonds_fault s) (apart_fault s))) (sym A.refusal)
+          content ∙ or_next-none (counts_fault s) _ (sym counts ∙ sym z)
+          ∙ or_next-assoc (atoms_fault s) (total_fault s) (or_next (bonds_fault s) (apart_fault s))
 
-      pub read-atomic : a.refusal ≢ 0 → IsRead s a
-      read-atomic y = refuse a a.refusal (after-counts ∙ or_next-some a.refusal _ y) y refl
+      pub read-atomic : (q : Result Table Refusal) (r : Refusal) → q ≡ Err r → AtomsRead s (Err r) → IsRead s q
+      read-atomic q r e A =
+          refuse q r e
+          (after-counts ∙ ap (λ (w : ℕ). or_next w (or_next (bonds_fault s) (apart_fault s))) (sym A.refusal) ∙ or_next-some (number_of r) _ (number_of-some r))
 
-      module _ (y : a.refusal ≡ 0) (b : CardRead) (B : BondsRead s b) where
-        after-atoms : card_fault s ≡ or_next b.refusal (apart_fault s)
-        after-atoms = after-counts ∙ or_next-none a.refusal _ y ∙ ap (λ (w : ℕ). or_next w (apart_fault s)) (sym B.refusal)
+      module _ (bare : Table) (A : AtomsRead s (Ok bare)) where
+        after-atoms : card_fault s ≡ or_next (bonds_fault s) (apart_fault s)
+        after-atoms = after-counts ∙ or_next-none _ _ (sym A.refusal)
 
-        pub read-bonded : b.refusal ≢ 0 → IsRead s b
-        read-bonded x = refuse b b.refusal (after-atoms ∙ or_next-some b.refusal _ x) x refl
+        pub read-bonded : (t : Table) (q : Result Table Refusal) (r : Refusal) → q ≡ Err r → BondsRead s t (Err r) → IsRead s q
+        read-bonded t q r e B =
+            refuse q r e (after-atoms ∙ ap (λ (w : ℕ). or_next w (apart_fault s)) (sym B.refusal) ∙ or_next-some (number_of r) _ (number_of-some r))
 
-        module _ (x : b.refusal ≡ 0) where
-          holds : Holds s (atom_count s) (bond_count s) b.table
-          holds = B.table x
-
+        module _ (t : Table) (B : BondsRead s t (Ok tt)) where
           after-bonds : card_fault s ≡ apart_fault s
-          after-bonds = after-atoms ∙ or_next-none b.refusal _ x
+          after-bonds = after-atoms ∙ or_next-none _ _ (sym B.refusal)
 
-          pub read-ready : TidyTable b.table × EvenTable b.table × (0 < b.table.n)
-          read-ready = (holds.tidy, holds_even s b.table holds, omega (arith, holds.size, e, counts_low n m (sym g ∙ z)))
+          pub read-ready : TidyTable t × EvenTable t × (0 < t.n)
+          read-ready =
+              (B.table.tidy, holds_even s t B.table, omega (arith, B.table.size, some-atoms))
 
-          apart : (p : Bool) → p ≡ connected (view_of b.table) → apart_fault s ≡ cond p 0 8
+          apart : (p : Bool) → p ≡ connected (view_of t) → apart_fault s ≡ cond p 0 8
           unfolding apart_fault
-          apart p q = ap (λ (t : Bool). cond {A = ℕ} t 0 8) (connected-alike (holds_all s b.table holds) ∙ sym q)
+          apart p q = ap (λ (b : Bool). cond {A = ℕ} b 0 8) (connected-alike (holds_all s t B.table) ∙ sym q)
 
-          pub read-apart : (p : Bool) → p ≡ connected (view_of b.table) → p ≡ false → (r : CardRead) → r.refusal ≡ 8 → IsRead s r
-          read-apart p q h r k = refuse r 8 (after-bonds ∙ apart p q ∙ ap (λ (t : Bool). cond {A = ℕ} t 0 8) h) (λ w. omega arith) k
+          pub read-apart : (p : Bool) → p ≡ connected (view_of t) → p ≡ false → IsRead s (Err NotConnected)
+          read-apart p q h = refuse _ NotConnected refl (after-bonds ∙ apart p q ∙ ap (λ (b : Bool). cond {A = ℕ} b 0 8) h)
 
-          pub read_whole : (p : Bool) → p ≡ connected (view_of b.table) → p ≡ true → IsRead s b
+          pub read_whole : (p : Bool) → p ≡ connected (view_of t) → p ≡ true → IsRead s (Ok t)
           read_whole p q h = record {
-            refusal = x ∙ sym (after-bonds ∙ apart p q ∙ ap (λ (t : Bool). cond {A = ℕ} t 0 8) h);
-            tidy = λ w. holds.tidy;
-            view = λ w. holds_all s b.table holds;
+            refusal = sym (after-bonds ∙ apart p q ∙ ap (λ (b : Bool). cond {A = ℕ} b 0 8) h);
+            tidy = B.table.tidy;
+            view = holds_all s t B.table;
           }
 
 -- the table of a card that was read is sound
-pub read-sound : (s : List ℕ) (r : CardRead) → IsRead s r → r.refusal ≡ 0 → Sound (view_of r.table)
-read-sound s r R e = sound-along (R.view e) (well_formed-sound s (sym R.refusal ∙ e))
+pub read-sound : (s : List ℕ) (t : Table) → IsRead s (Ok t) → Sound (view_of t)
+read-sound s t R = sound-along R.view (well_formed-sound s (sym R.refusal))

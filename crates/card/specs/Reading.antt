@@ -1,5 +1,5 @@
 -- What the reader of a card gives: a refusal, and where there is none a table whose view is the card's molecule.
-use Rattle.std.specs.Prelude.{not, List, [], ◌∷◌, map, ◌≡◌, ℕ, ◌<◌, eqb, length}
+use Rattle.std.specs.Prelude.{not, List, [], ◌∷◌, map, ◌≡◌, ℕ, ◌<◌, eqb, length, Result, IfOk}
 use Rattle.lists.specs.Tests.{count, some}
 use Rattle.molecule.specs.Bonds.{on, joins, code_in}
 use Rattle.molecule.specs.Molecule.{neighbours}
@@ -7,9 +7,10 @@ use Rattle.molecule.specs.Renumbering.{Renumbered}
 use Rattle.molecule.specs.Refusals.{or_next}
 use Rattle.molecule.specs.Layout.{atom_count, kind_at, hydrogens_at, bond_count, bonds_to}
 use Rattle.molecule.specs.Judged.{molecule_of, atoms_fault, total_fault, bonds_fault, card_fault}
+use Rattle.refusal.specs.declared.Refusal.{Refusal}
+use Rattle.refusal.specs.Numbers.{refusal_in}
 use Rattle.table.specs.declared.Table.{Table}
 use Rattle.table.specs.View.{view_of, TidyTable}
-use Rattle.card.specs.declared.CardRead.{CardRead}
 
 -- the table has the card's first atoms, and of its bonds the first k
 pub record Holds (s : List ℕ) (atoms k : ℕ) (t : Table) : Type 0 where
@@ -20,15 +21,16 @@ pub record Holds (s : List ℕ) (atoms k : ℕ) (t : Table) : Type 0 where
   pub degree : (x : ℕ) → x < atoms → length (neighbours (view_of t) x) ≡ count (map (on x) (bonds_to s k))
   pub paired : (x y : ℕ) → some (map (joins x y) (bonds_to s k)) ≡ not (eqb (code_in (bonds_to s k) x y) 0)
 
-pub record AtomsRead (s : List ℕ) (r : CardRead) : Type 0 where
-  pub refusal : r.refusal ≡ or_next (atoms_fault s) (total_fault s)
-  pub table : r.refusal ≡ 0 → Holds s (atom_count s) 0 r.table
+pub record AtomsRead (s : List ℕ) (r : Result Table Refusal) : Type 0 where
+  pub refusal : refusal_in r ≡ or_next (atoms_fault s) (total_fault s)
+  pub table : IfOk r (Holds s (atom_count s) 0)
 
-pub record BondsRead (s : List ℕ) (r : CardRead) : Type 0 where
-  pub refusal : r.refusal ≡ bonds_fault s
-  pub table : r.refusal ≡ 0 → Holds s (atom_count s) (bond_count s) r.table
+-- the bonds are read into a table that has the atoms
+pub record BondsRead (s : List ℕ) (t : Table) (r : Result Unit Refusal) : Type 0 where
+  pub refusal : refusal_in r ≡ bonds_fault s
+  pub table : IfOk r (λ _. Holds s (atom_count s) (bond_count s) t)
 
-pub record IsRead (s : List ℕ) (r : CardRead) : Type 0 where
-  pub refusal : r.refusal ≡ card_fault s
-  pub tidy : r.refusal ≡ 0 → TidyTable r.table
-  pub view : r.refusal ≡ 0 → Renumbered (λ a. a) (molecule_of s) (view_of r.table)
+pub record IsRead (s : List ℕ) (r : Result Table Refusal) : Type 0 where
+  pub refusal : refusal_in r ≡ card_fault s
+  pub tidy : IfOk r TidyTable
+  pub view : IfOk r (λ t. Renumbered (λ a. a) (molecule_of s) (view_of t))

@@ -1,25 +1,25 @@
 -- What a card's layout gives, and the tests of an atom and of a bond over bytes and lent arrays.
-use Rattle.std.specs.Prelude.{true, cond, not, ◌||◌, List, ◌≡◌, ℕ, ◌<◌, eqb, leb, ltb, get_or}
+use Rattle.std.specs.Prelude.{cond, not, ◌||◌, List, ◌≡◌, ℕ, eqb, leb, ltb, get_or, Option, Some, None, Result, IfOk}
 use Rattle.molecule.specs.Bonds.{Bond}
-use Rattle.molecule.specs.Kinds.{is_kind}
-use Rattle.molecule.specs.Layout.{length_at, in_layout, atom_count, bond_count}
+use Rattle.molecule.specs.Kinds.{is_kind, kind_of_number}
+use Rattle.molecule.specs.Layout.{in_layout, atom_count, bond_count}
+use Rattle.refusal.specs.declared.Refusal.{Refusal}
+use Rattle.refusal.specs.Numbers.{refusal_in}
 use Rattle.table.specs.Arrays.{code_found}
 use Rattle.card.specs.declared.layout.Fields.{Fields}
 
--- two bytes of length, high byte first
-pub record IsLength (s : List ℕ) (i r : ℕ) : Type 0 where
-  pub is : r ≡ length_at s i
-  pub small : r < 65536
-
--- whether the layout is sound, and where it is, how many atoms and bonds there are
-pub record AreFields (s : List ℕ) (f : Fields) : Type 0 where
-  pub sound : f.sound ≡ in_layout s
-  pub atoms : in_layout s ≡ true → f.atoms ≡ atom_count s
-  pub bonds : in_layout s ≡ true → f.bonds ≡ bond_count s
+-- where the layout is sound, how many atoms and bonds there are
+abbrev pub fields_of : List ℕ → Option Fields
+fields_of s = cond (in_layout s) (Some (record { atoms = atom_count s; bonds = bond_count s })) None
 
 -- 3 for its kind, then 4 for its hydrogens
 abbrev pub atom_tested : ℕ → ℕ → ℕ
 atom_tested kind hydrogens = cond (not (is_kind kind)) 3 (cond (ltb 4 hydrogens) 4 0)
+
+-- the kind of an atom's number, where neither it nor the hydrogens are refused
+pub record IsAtom (number hydrogens : ℕ) (r : Result ℕ Refusal) : Type 0 where
+  pub refusal : refusal_in r ≡ atom_tested (kind_of_number number) hydrogens
+  pub kind : IfOk r (λ k. k ≡ kind_of_number number)
 
 -- 5, 6, 4 for a bond after those of which the rows have the codes
 unfoldable pub bond_tested : ℕ → (degrees near codes : List ℕ) → Bond → ℕ

@@ -4,6 +4,7 @@ use mathlib.Core.List.{List, [], ◌∷◌, flatten}
 use Rattle.std.proofs.lemmas.List.Edits.{sets}
 use Rattle.lists.specs.Upto.{each, sum}
 use Rattle.molecule.specs.Kinds.{number_of}
+use Rattle.card.specs.declared.writing.Writer.{Writer}
 
 -- two bytes for an atom
 abbrev pub atom_piece : (kinds hydrogens : List ℕ) → ℕ → List ℕ
@@ -28,3 +29,8 @@ row_length degrees near a = sum (each (get_or degrees a 0) (λ p. cond (ltb a (g
 pub record Wrote (out : List ℕ) (at : ℕ) (bytes after : List ℕ) (next : ℕ) : Type 0 where
   pub is : after ≡ sets out at bytes
   pub ends : next ≡ at + length bytes
+
+-- the bytes were written from the writer's place on, and it still holds the same buffer
+pub record PutIn (w : Writer) (bytes : List ℕ) (w' : Writer) : Type 0 where
+  pub same : w'.out.ghost_name ≡ w.out.ghost_name
+  pub wrote : Wrote w.out.now w.at bytes w'.out.now w'.at

@@ -1,79 +1,56 @@
 // Where a card's parts stand, and how many there are.
-ghost use Rattle.std.specs.Prelude.{◌≡◌, false, cond, ◌||◌, ◌+◌, ◌<◌, eqb, ltb, length};
-ghost use Rattle.card.specs.Tests.{IsLength, AreFields};
+ghost use Rattle.std.specs.Prelude.{◌≡◌, cond, ◌||◌, ◌+◌, ◌<◌, eqb, ltb, length};
+ghost use Rattle.refusal.specs.Numbers.{refusal_in};
+ghost use Rattle.molecule.specs.Layout.{length_at};
+ghost use Rattle.card.specs.Tests.{fields_of};
 
+use refusal::Refusal;
 use table::Table;
 
-#[derive(Clone, Copy, Drop)]
+// How many atoms and bonds a card lists.
+#[derive(Clone, Copy, Debug, PartialEq, Eq, Drop)]
 pub struct Fields {
-    pub sound: bool,
     pub atoms: usize,
     pub bonds: usize,
 }
 
-fn broken() -> Fields
-    ensures { result ≡ record { sound = false; atoms = 0; bonds = 0 } }
-{
-    Fields {
-        sound: false,
-        atoms: 0,
-        bonds: 0,
-    }
-}
-
 // Two bytes of length, high byte first.
-fn length_at(card: &[u8], i: usize) -> usize
+fn length_at(card: &[u8], i: usize) -> u16
     requires { i + 1 < length card.now }
-    ensures { IsLength card.now i result }
+    ensures { result ≡ length_at card.now i }
 {
-    256 * (card[i] as usize) + (card[i + 1] as usize)
+    u16::from_be_bytes([card[i], card[i + 1]])
 }
 
-pub fn find_fields(card: &[u8]) -> Fields
-    ensures { AreFields card.now result }
+pub fn find_fields(card: &[u8]) -> Option<Fields>
+    ensures { result ≡ fields_of card.now }
 {
-    if card.len() < 6 {
-        return broken();
+    if card.len() < 6 || card[0] != 1 {
+        return None;
     }
-    if card[0] != 1 {
-        return broken();
+    let a = length_at(card, 1) as usize;
+    if a % 2 != 0 || card.len() < a + 6 || card[a + 3] != 2 {
+        return None;
     }
-    let a = length_at(card, 1);
-    if a % 2 != 0 {
-        return broken();
+    let b = length_at(card, a + 4) as usize;
+    if b % 3 != 0 || card.len() != a + b + 6 {
+        return None;
     }
-    if card.len() < a + 6 {
-        return broken();
-    }
-    if card[a + 3] != 2 {
-        return broken();
-    }
-    let b = length_at(card, a + 4);
-    if b % 3 != 0 {
-        return broken();
-    }
-    if card.len() != a + b + 6 {
-        return broken();
-    }
-    Fields {
-        sound: true,
+    Some(Fields {
         atoms: a / 2,
         bonds: b / 3,
-    }
+    })
 }
 
 // 1 for no atoms, 4 for too many atoms or bonds.
-pub fn counts_fault(atoms: usize, bonds: usize) -> u8
-    ensures { result ≡ cond (eqb atoms 0) 1 (cond (ltb 64 atoms || ltb 80 bonds) 4 0) }
+pub fn counts_fault(atoms: usize, bonds: usize) -> Result<(), Refusal>
+    ensures { refusal_in result ≡ cond (eqb atoms 0) 1 (cond (ltb 64 atoms || ltb 80 bonds) 4 0) }
 {
     if atoms == 0 {
-        return 1;
+        return Err(Refusal::NoAtoms);
     }
-    if Table::MAX_ATOMS < atoms {
-        return 4;
+    if Table::MAX_ATOMS < atoms || Table::MAX_BONDS < bonds {
+        return Err(Refusal::OverLimit);
     }
-    if Table::MAX_BONDS < bonds {
-        return 4;
-    }
-    0
+    Ok(())
 }

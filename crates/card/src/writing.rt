@@ -1,153 +1,103 @@
-// The parts of a card written one after the other into a lent buffer; each gives the place after it.
-ghost use Rattle.std.specs.Prelude.{◌≡◌, cond, ℕ, ◌+◌, ◌*◌, ◌/◌, ◌%◌, ◌<◌, ◌≤◌, ltb, length, get_or};
+// The parts of a card written one after the other into a lent buffer.
+ghost use Rattle.std.specs.Prelude.{◌≡◌, ◌+◌, ◌*◌, ◌/◌, ◌%◌, ◌<◌, ◌≤◌, length};
 ghost use mathlib.Core.List.{[], ◌∷◌, flatten};
 ghost use Rattle.lists.specs.Upto.{each, sum};
 ghost use Rattle.table.specs.Arrays.{HasRow};
-ghost use Rattle.card.specs.Writing.{atom_piece, bond_piece, row_bytes, row_length, Wrote};
+ghost use Rattle.table.specs.View.{TidyTable};
+ghost use Rattle.card.specs.Writing.{atom_piece, bond_piece, row_bytes, row_length, PutIn};
 
-use super::wide;
+use table::rows::Rows;
 use table::{AtomNo, Table};
 
-fn narrow(x: usize) -> u8
-    requires { x < 256 }
-    ensures { result ≡ x }
-{
-    x as u8
+// A lent buffer, and the place in it at which the next byte is written.
+#[derive(Drop)]
+pub struct Writer<'a> {
+    pub out: &'a mut [u8],
+    pub at: usize,
 }
 
-// The tag and the length of a field.
-pub fn write_head(out: &mut [u8], at: usize, tag: u8, size: usize) -> usize
-    requires { (at + 3 ≤ length out.old) × (size < 65536) }
-    ensures { Wrote out.old at (tag ∷ (size / 256) ∷ (size % 256) ∷ []) out.new result }
-{
-    out[at] = tag;
-    out[at + 1] = narrow(size / 256);
-    out[at + 2] = narrow(size % 256);
-    at + 3
-}
-
-// Two bytes for each atom.
-pub fn write_atoms<'a>(
-    out: &mut [u8],
-    at: usize,
-    n: usize,
-    kinds: &'a [u8; Table::MAX_ATOMS],
-    hydrogens: &'a [u8; Table::MAX_ATOMS],
-) -> usize
-    requires { (at + 2 * n ≤ length out.old) × (n ≤ 64) × ((a : ℕ) → a < n → get_or kinds.now a 0 ≤ 24) }
-    ensures { Wrote out.old at (flatten (each n (atom_piece kinds.now hydrogens.now))) out.new result }
-{
-    let mut a: usize = 0;
-    while a < n {
-        let to = at + 2 * a;
-        out[to] = kinds::number_of(kinds[a]);
-        out[to + 1] = hydrogens[a];
-        a += 1;
+impl Writer<'_> {
+    // Writes the bytes at its place and goes on after them.
+    fn put(&mut self, bytes: &[u8])
+        requires { self.old.at + length bytes.now ≤ length self.old.out.now }
+        ensures { PutIn self.old bytes.now self.new }
+    {
+        let start = self.at;
+        let end = start + bytes.len();
+        self.out[start..end].copy_from_slice(bytes);
+        self.at = end;
     }
-    at + 2 * n
+
+    // The tag and the length of a field.
+    pub fn head(&mut self, tag: u8, size: usize)
+        requires { (self.old.at + 3 ≤ length self.old.out.now) × (size < 65536) }
+        ensures { PutIn self.old (tag ∷ (size / 256) ∷ (size % 256) ∷ []) self.new }
+    {
+        let [high, low] = (size as u16).to_be_bytes();
+        self.put(&[tag, high, low]);
+    }
+
+    // Two bytes for each atom.
+    pub fn atoms(&mut self, t: &Table)
+        requires { TidyTable t.now × (self.old.at + 2 * t.now.n ≤ length self.old.out.now) }
+        ensures { PutIn self.old (flatten (each t.now.n (atom_piece t.now.kinds t.now.hydrogens))) self.new }
+    {
+        for a in 0..t.n {
+            self.put(&[t.kinds[a].atomic_number(), t.hydrogens[a]]);
+        }
+    }
+
+    // Three bytes for a bond, unless its other atom comes first and has written it.
+    fn bond(&mut self, a: AtomNo, b: AtomNo, code: u8)
+        requires { self.old.at + length (bond_piece a.0 b.0 code) ≤ length self.old.out.now }
+        ensures { PutIn self.old (bond_piece a.0 b.0 code) self.new }
+    {
+        if a < b {
+            self.put(&[a.0, b.0, code]);
+        }
+    }
+
+    // The bonds of a to higher atoms, ascending.
+    fn row(&mut self, rows: &Rows, a: AtomNo)
+        requires { HasRow rows.now.degrees rows.now.near a.0 × (self.old.at + length (row_bytes rows.now.degrees rows.now.near rows.now.codes a.0) ≤ length self.old.out.now) }
+        ensures { PutIn self.old (row_bytes rows.now.degrees rows.now.near rows.now.codes a.0) self.new }
+    {
+        let first = Table::MAX_BONDS_ON * a.0 as usize;
+        for p in 0..rows.degrees[a.0 as usize] as usize {
+            self.bond(a, AtomNo(rows.near[first + p]), rows.codes[first + p]);
+        }
+    }
+
+    // The bonds of all atoms, ascending by first then second atom.
+    pub fn bonds(&mut self, t: &Table)
+        requires { TidyTable t.now × (self.old.at + length (flatten (each t.now.n (row_bytes t.now.rows.degrees t.now.rows.near t.now.rows.codes))) ≤ length self.old.out.now) }
+        ensures { PutIn self.old (flatten (each t.now.n (row_bytes t.now.rows.degrees t.now.rows.near t.now.rows.codes))) self.new }
+    {
+        for a in 0..t.n {
+            self.row(&t.rows, AtomNo(a as u8));
+        }
+    }
 }
 
-// Three bytes for a bond, unless its other atom comes first and has written it.
-fn write_bond(out: &mut [u8], at: usize, a: AtomNo, b: AtomNo, code: u8) -> usize
-    requires { at + length (bond_piece a.0 b.0 code) ≤ length out.old }
-    ensures { Wrote out.old at (bond_piece a.0 b.0 code) out.new result }
+// Three bytes for each neighbour that comes after the atom.
+fn row_length(rows: &Rows, a: AtomNo) -> usize
+    requires { HasRow rows.now.degrees rows.now.near a.0 }
+    ensures { result ≡ row_length rows.now.degrees rows.now.near a.0 }
 {
-    if b.0 <= a.0 {
-        return at;
-    }
-    out[at] = a.0;
-    out[at + 1] = b.0;
-    out[at + 2] = code;
-    at + 3
-}
-
-// The bonds of a to higher atoms, ascending.
-fn write_row<'a>(
-    out: &mut [u8],
-    at: usize,
-    degrees: &'a [u8; Table::MAX_ATOMS],
-    near: &'a [u8; Table::SLOTS],
-    codes: &'a [u8; Table::SLOTS],
-    a: AtomNo,
-) -> usize
-    requires { HasRow degrees.now near.now a.0 × (at + length (row_bytes degrees.now near.now codes.now a.0) ≤ length out.old) }
-    ensures { Wrote out.old at (row_bytes degrees.now near.now codes.now a.0) out.new result }
-{
-    let i = a.0 as usize;
-    let d = wide(degrees[i]);
-    let mut to = at;
-    let mut p: usize = 0;
-    while p < d {
-        let slot = Table::MAX_BONDS_ON * i + p;
-        to = write_bond(out, to, a, AtomNo(near[slot]), codes[slot]);
-        p += 1;
-    }
-    to
-}
-
-// The bonds of all atoms, ascending by first then second atom.
-pub fn write_bonds<'a>(
-    out: &mut [u8],
-    at: usize,
-    n: usize,
-    degrees: &'a [u8; Table::MAX_ATOMS],
-    near: &'a [u8; Table::SLOTS],
-    codes: &'a [u8; Table::SLOTS],
-) -> usize
-    requires { ((a : ℕ) → a < n → HasRow degrees.now near.now a) × (at + length (flatten (each n (row_bytes degrees.now near.now codes.now))) ≤ length out.old) }
-    ensures { Wrote out.old at (flatten (each n (row_bytes degrees.now near.now codes.now))) out.new result }
-{
-    let mut to = at;
-    let mut a: usize = 0;
-    while a < n {
-        to = write_row(out, to, degrees, near, codes, AtomNo(narrow(a)));
-        a += 1;
-    }
-    to
-}
-
-fn piece_length(a: AtomNo, b: AtomNo) -> usize
-    ensures { result ≡ cond (ltb a.0 b.0) 3 0 }
-{
-    if a.0 < b.0 {
-        return 3;
-    }
-    0
-}
-
-fn row_length<'a>(
-    degrees: &'a [u8; Table::MAX_ATOMS],
-    near: &'a [u8; Table::SLOTS],
-    a: AtomNo,
-) -> usize
-    requires { HasRow degrees.now near.now a.0 }
-    ensures { result ≡ row_length degrees.now near.now a.0 }
-{
-    let i = a.0 as usize;
-    let d = wide(degrees[i]);
-    let mut bytes: usize = 0;
-    let mut p: usize = 0;
-    while p < d {
-        bytes += piece_length(a, AtomNo(near[Table::MAX_BONDS_ON * i + p]));
-        p += 1;
-    }
-    bytes
+    let first = Table::MAX_BONDS_ON * a.0 as usize;
+    let end = first + rows.degrees[a.0 as usize] as usize;
+    3 * rows.near[first..end].iter().filter(|b| a.0 < **b).count()
 }
 
 // How many bytes all bonds take.
-pub fn bonds_length<'a>(
-    n: usize,
-    degrees: &'a [u8; Table::MAX_ATOMS],
-    near: &'a [u8; Table::SLOTS],
-) -> usize
-    requires { (n ≤ 64) × ((a : ℕ) → a < n → HasRow degrees.now near.now a) }
-    ensures { result ≡ sum (each n (row_length degrees.now near.now)) }
+pub fn bonds_length(t: &Table) -> usize
+    requires { TidyTable t.now }
+    ensures { result ≡ sum (each t.now.n (row_length t.now.rows.degrees t.now.rows.near)) }
 {
+    // A loop: the sum of a chain got no proof, since its closure does not know that the row of its atom is there.
     let mut bytes: usize = 0;
-    let mut a: usize = 0;
-    while a < n {
-        bytes += row_length(degrees, near, AtomNo(narrow(a)));
-        a += 1;
+    for a in 0..t.n {
+        bytes += row_length(&t.rows, AtomNo(a as u8));
     }
     bytes
 }

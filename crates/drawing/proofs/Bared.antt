@@ -1,22 +1,42 @@
 -- The atoms of a drawing that are no H, one place at a time.
-use mathlib.Core.Bool.{Bool, true, false, not}
+use mathlib.Core.Bool.{Bool, true, false, cond, not}
 use mathlib.Core.List.{List, [], ◌∷◌, ◌++◌}
-use mathlib.Core.Path.{◌≡◌, refl, sym, ◌∙◌, ap}
+use mathlib.Core.Path.{◌≡◌, refl, sym, ◌∙◌, ap, subst}
 use Prim.Native.Nat.{ℕ, suc, ◌+◌, ◌<◌, ◌≤◌}
 use native.Mathlib.Decide.{ℕ_discrete}
 use native.Mathlib.Numerals.{add-one}
 use native.Mathlib.Omega.{arith}
-use lib.Dec.{eqb}
-use lib.ListN.{length, get_or, set, replicate, length-set, length-replicate, length-append, get_or-append}
+use lib.Dec.{eqb, ltb}
+use lib.ListN.{length, get_or, set, replicate, length-set, length-replicate, get_or-replicate, length-append, get_or-append}
 use lib.Seq.{get_or-append_seam, get_or-set_same, get_or-set_other}
-use borrow.Author.Tests.{ne_eqb, eqb-false}
+use borrow.Author.Tests.{ne_eqb, eqb-false, lt-ltb, le-ltb}
 use Rattle.lists.specs.Upto.{from}
 use Rattle.lists.specs.Tests.{keep, count}
 use Rattle.lists.proofs.Upto.{each-get_or}
 use Rattle.lists.proofs.KeptBelow.{count-more, kept-count, kept-hit, kept-miss, kept_at}
 use Rattle.table.proofs.Unbonded.{unbonded_tidy, empty_row}
-use Rattle.drawing.specs.Tests.{heavy_in}
-use Rattle.drawing.specs.Folding.{heavies_to, KindPut, Bares}
+use Rattle.table.specs.declared.Table.{Table}
+use Rattle.table.specs.declared.rows.Rows.{Rows}
+use Rattle.table.specs.View.{TidyTable}
+use Rattle.table.specs.Changes.{no_rows}
+use Rattle.card.proofs.Faults.{Rest, rest_stop, rest_next}
+use Rattle.std.specs.Prelude.{Option, Some, None, Ok, Err}
+use Rattle.std.specs.Option.{ok_or}
+use Rattle.kinds.specs.Known.{kind_in}
+use Rattle.refusal.specs.declared.Refusal.{Refusal}
+use Rattle.drawing.specs.declared.folding.Folding.{Folding}
+use Rattle.drawing.specs.Tests.{heavy_in, unknown_tested}
+use Rattle.drawing.specs.Folding.{empty_folding, heavies_to, with_kind, KindPut, Bares}
+use Rattle.drawing.proofs.CountLaws.{unknown, unknown-start}
+
+-- an atom's kind, where its symbol is known
+pub kind_known : (k : Option ℕ) (r : Refusal) (x : ℕ) → ok_or k r ≡ Ok x → kind_in k ≡ x
+kind_known (Some k) r x e = cc
+kind_known None r x e = cc
+
+pub kind_unknown : (k : Option ℕ) (r s : Refusal) → ok_or k r ≡ Err s → (kind_in k ≡ 25) × (s ≡ r)
+kind_unknown (Some k) r s e = cc
+kind_unknown None r s e = (refl, cc)
 
 module _ (ks : List ℕ) where
   abbrev pub heavy : ℕ → Bool
@@ -59,18 +79,14 @@ module _ (ks : List ℕ) where
             get_or-set_other own n a k 0 z ∙ B.kinds a (omega arith)
             ∙ ap (λ (p : ℕ). get_or ks p 0) (sym (get_or-append (heavies_to ks i) (i ∷ []) 0 a (omega (arith, B.size))))
 
-    pub heavies_step : ((k ≡ 0 → ⊥) → n < 64) → (n' : ℕ) (own' : List ℕ) → KindPut n k own n' own' → Heavies (i + 1) n' own'
-    heavies_step room n' own' P = rw (add-one i) (pick (eqb (get_or ks i 0) 0) refl)
-      where
-        test : (b : Bool) → eqb (get_or ks i 0) 0 ≡ b → eqb k 0 ≡ b
-        test b f = ap (λ (x : ℕ). eqb x 0) e ∙ f
+    pub heavies_miss : eqb k 0 ≡ true → Heavies (suc i) n own
+    heavies_miss f = same_places (kept-miss heavy i (rw (sym (ap (λ (x : ℕ). eqb x 0) e) ∙ f)))
 
-        pick : (b : Bool) → eqb (get_or ks i 0) 0 ≡ b → Heavies (suc i) n' own'
-        pick true f = rw (P.count, P.kinds, test true f) (same_places (kept-miss heavy i (rw f)))
-        pick false f = rw (P.count, P.kinds, test false f) (new_place (kept-hit heavy i (rw f)) (room (eqb-false _ _ (test false f))))
+    pub heavies_hit : eqb k 0 ≡ false → n < 64 → Heavies (suc i) (n + 1) (set own n k)
+    heavies_hit f room = new_place (kept-hit heavy i (rw (sym (ap (λ (x : ℕ). eqb x 0) e) ∙ f))) room
 
   -- the numbers by place, one more
-  pub numbered_more : (l : List ℕ) (p x : ℕ) → p < length l → x ≡ length (heavies_to ks p) → ((q : ℕ) → q < p → get_or l q 0 ≡ length (heavies_to ks q))
+  numbered_more : (l : List ℕ) (p x : ℕ) → p < length l → x ≡ length (heavies_to ks p) → ((q : ℕ) → q < p → get_or l q 0 ≡ length (heavies_to ks q))
       → (q : ℕ) → q < p + 1 → get_or (set l p x) q 0 ≡ length (heavies_to ks q)
   numbered_more l p x h e f q k = pick (ℕ_discrete q p)
     where
@@ -78,14 +94,97 @@ module _ (ks : List ℕ) where
       pick (yes z) = rw z (get_or-set_same l p x 0 h ∙ e)
       pick (no z) = get_or-set_other l p q x 0 z ∙ f q (omega arith)
 
-  pub heavies_bare : (n : ℕ) (own numbers : List ℕ) → n ≤ 64 → Heavies (length ks) n own → length numbers ≡ 999 → ((p : ℕ) → p < length ks → get_or numbers p 0 ≡ length (heavies_to ks p))
-      → Bares ks (record { table = record { n = n; kinds = own; hydrogens = replicate 64 0; degrees = replicate 64 0; near = replicate 384 0; codes = replicate 384 0 }; numbers = numbers })
-  heavies_bare n own numbers l B long N = record {
-    tidy = unbonded_tidy n own (replicate 64 0) l B.long (length-replicate {A = ℕ} 64 0);
-    size = B.size;
-    kinds = B.kinds;
-    hydrogens = λ a h. empty_row a (omega arith);
-    degrees = λ a h. empty_row a (omega arith);
-    long = long;
-    numbers = N;
+  -- the atoms at the places below p put into a table that was empty, and no fault before p
+  pub record AtomsTo (p : ℕ) (f : Folding) : Type 0 where
+    pub heavies : Heavies p f.table.n f.table.kinds
+    pub hydrogens : f.table.hydrogens ≡ replicate 64 0
+    pub rows : f.table.rows ≡ no_rows
+    pub used : f.used ≡ replicate 999 false
+    pub long : length f.numbers ≡ 999
+    pub numbers : (q : ℕ) → q < p → get_or f.numbers q 0 ≡ length (heavies_to ks q)
+    pub rest : unknown_tested ks ≡ Rest (unknown ks) (length ks) p
+
+  pub atoms_start : AtomsTo 0 empty_folding
+  atoms_start = record {
+    heavies = heavies_start;
+    hydrogens = refl;
+    rows = refl;
+    used = refl;
+    long = length-replicate {A = ℕ} 999 0;
+    numbers = λ q h. absurd (omega arith);
+    rest = unknown-start ks;
   }
+
+  module _ (p : ℕ) (f : Folding) (A : AtomsTo p f) (h : p < length ks) (few : heavy_in ks ≤ 64) where
+    pub atoms_few : f.table.n ≤ 64
+    atoms_few = omega (arith, A.heavies.size, few, heavies_low p (omega arith))
+
+    pub atoms_room : (k : ℕ) → k ≡ get_or ks p 0 → (k ≡ 0 → ⊥) → f.table.n < 64
+    atoms_room k e n = omega (arith, A.heavies.size, few, heavies_room p h (λ z. n (e ∙ z)))
+
+    pub atoms_stop : 24 < get_or ks p 0 → 3 ≡ unknown_tested ks
+    atoms_stop l =
+        let g : ltb 24 (get_or ks p 0) ≡ true = lt-ltb 24 _ l in
+        sym (A.rest ∙ rest_stop (unknown ks) (length ks) p h (λ z. let y = simp g at z in omega arith) ∙ rw g)
+
+    module _ (long-enough : length ks ≤ 999) (k : ℕ) (e : k ≡ get_or ks p 0) (low : k ≤ 24) where
+      next_rest : unknown_tested ks ≡ Rest (unknown ks) (length ks) (p + 1)
+      next_rest =
+          let g : ltb 24 (get_or ks p 0) ≡ false = le-ltb 24 (get_or ks p 0) (omega arith) in
+          A.rest ∙ rest_next (unknown ks) (length ks) p h (rw g)
+
+      -- with the number of the place, and then its kind
+      pub atoms_next : (f' : Folding) → KindPut k (record f { numbers = set f.numbers p f.table.n }) f' → AtomsTo (p + 1) f'
+      atoms_next f' q = go (eqb k 0) refl
+        where
+          g : Folding
+          g = record f { numbers = set f.numbers p f.table.n }
+
+          more : (q : ℕ) → q < p + 1 → get_or (set f.numbers p f.table.n) q 0 ≡ length (heavies_to ks q)
+          more = numbered_more f.numbers p f.table.n (omega (arith, A.long, long-enough)) A.heavies.size A.numbers
+
+          go : (b : Bool) → eqb k 0 ≡ b → AtomsTo (p + 1) f'
+          go true r =
+              subst (AtomsTo (p + 1)) (sym (q ∙ ap (λ (b : Bool). record g { table = cond b g.table (with_kind k g.table) }) r))
+              (record {
+                heavies = rw (add-one p) (heavies_miss p f.table.n f.table.kinds A.heavies k e r);
+                hydrogens = A.hydrogens;
+                rows = A.rows;
+                used = A.used;
+                long = length-set f.numbers p f.table.n ∙ A.long;
+                numbers = more;
+                rest = next_rest;
+              })
+          go false r =
+              subst (AtomsTo (p + 1)) (sym (q ∙ ap (λ (b : Bool). record g { table = cond b g.table (with_kind k g.table) }) r))
+              (record {
+                heavies = rw (add-one p) (heavies_hit p f.table.n f.table.kinds A.heavies k e r (atoms_room k e (eqb-false _ _ r)));
+                hydrogens = A.hydrogens;
+                rows = A.rows;
+                used = A.used;
+                long = length-set f.numbers p f.table.n ∙ A.long;
+                numbers = more;
+                rest = next_rest;
+              })
+
+  pub atoms_done : (f : Folding) → heavy_in ks ≤ 64 → AtomsTo (length ks) f → Bares ks f
+  atoms_done f few A = record {
+    tidy = tidy-made;
+    size = A.heavies.size;
+    kinds = A.heavies.kinds;
+    hydrogens = λ a h. ap (λ (l : List ℕ). get_or l a 0) A.hydrogens ∙ empty_row a (omega (arith, small));
+    degrees = λ a h. ap (λ (R : Rows). get_or R.degrees a 0) A.rows ∙ empty_row a (omega (arith, small));
+    numbers = A.numbers;
+    long = ap length A.used ∙ length-replicate {A = Bool} 999 false;
+    unused = λ p h. ap (λ (l : List Bool). get_or l p false) A.used ∙ get_or-replicate {A = Bool} 999 p false false h;
+  }
+    where
+      small : f.table.n ≤ 64
+      small = omega (arith, A.heavies.size, few, heavies_all)
+
+      bare : Table
+      bare = record { n = f.table.n; kinds = f.table.kinds; hydrogens = replicate 64 0; rows = no_rows }
+
+      tidy-made : TidyTable f.table
+      tidy-made = subst TidyTable (λ i. record { n = f.table.n; kinds = f.table.kinds; hydrogens = sym A.hydrogens i; rows = sym A.rows i })
+          (unbonded_tidy f.table.n f.table.kinds (replicate 64 0) small A.heavies.long (length-replicate {A = ℕ} 64 0))

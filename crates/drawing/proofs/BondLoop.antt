@@ -1,112 +1,109 @@
 -- The loop over the bonds of a drawing in arrays.
+use mathlib.Core.Bool.{Bool}
 use mathlib.Core.List.{List}
 use mathlib.Core.Logic.{◌≢◌}
 use mathlib.Core.Path.{◌≡◌, sym, ◌∙◌, ap, subst}
 use Prim.Native.Nat.{ℕ, ◌+◌, ◌<◌, ◌≤◌}
 use native.Mathlib.Decide.{ℕ_discrete}
 use native.Mathlib.Omega.{arith}
-use lib.ListN.{length, get_or}
-use Rattle.lists.proofs.Upto.{get_or-each, length-each}
+use lib.ListN.{length, get_or, take}
+use lib.Seq.{length-take-le}
+use Rattle.molecule.specs.Bonds as molecule
 use Rattle.table.specs.declared.Table.{Table}
-use Rattle.table.specs.View.{arrays_of}
 use Rattle.table.specs.Changes as table
-use Rattle.table.specs.Changes.{RowArrays}
-use Rattle.table.proofs.Halves.{rows_of}
 use Rattle.card.proofs.Faults.{rest_end}
-use Rattle.ctfile.specs.Filed.{Drawing}
+use Rattle.ctfile.specs.Filed as rules
 use Rattle.ctfile.specs.Drawings.{no_bond, bonds_fault}
-use Rattle.drawing.specs.declared.Folded.{Folded}
-use Rattle.drawing.specs.declared.atoms.Bare.{Bare}
-use Rattle.drawing.specs.View.{bond_of, drawing_in}
-use Rattle.drawing.specs.Tests.{HasAtoms, ends_tested}
-use Rattle.drawing.specs.Folding.{heavies_to, Bares, Foldable, BondFolded, BondsFolded}
-use Rattle.drawing.proofs.Taken.{taken_length, taken_there}
-use Rattle.drawing.proofs.Folding.{fault_at, FoldedTo, folded_start}
-use Rattle.drawing.proofs.Step.{changed, ends, step_absent, step_inside, step_linkable, step_wrong, step_next}
+use Rattle.drawing.specs.declared.Bond.{Bond}
+use Rattle.drawing.specs.declared.Drawing.{Drawing}
+use Rattle.drawing.specs.declared.folding.Folding.{Folding}
+use Rattle.kinds.specs.Known.{kind_in}
+use Rattle.drawing.specs.Tests.{ends_tested}
+use Rattle.drawing.specs.View.{numbers_of, bond_in, drawing_in, Fits}
+use Rattle.drawing.specs.Folding.{heavies_to, changed, ends_in, Foldable, BondFolded, BondsFolded}
+use Rattle.drawing.proofs.Taken.{mapped_long, taken_length, taken_there}
+use Rattle.drawing.proofs.FoldLaws.{fault_at, FoldedTo, FoldingTo}
+use Rattle.drawing.proofs.Step.{ends, step_absent, step_inside, step_linkable, step_wrong, step_next}
 use Rattle.drawing.proofs.Held.{folded-holds, folded-used}
 
-module _ (kinds one two codes : List ℕ) (atoms bonds : ℕ) (A : HasAtoms kinds atoms) where
-  abbrev pub drawn : Drawing
-  drawn = drawing_in kinds one two codes atoms bonds
+module _ (d : Drawing) (A : Fits d) where
+  abbrev pub drawn : rules.Drawing
+  drawn = drawing_in d
 
-  few : atoms ≤ length kinds
-  few = omega (arith, A.few, A.long)
+  few : d.counts.atoms ≤ length (numbers_of d)
+  few = omega (arith, A.atoms, A.kinds_long, mapped_long kind_in d.kinds)
 
-  pub atoms-length : length drawn.kinds ≡ atoms
-  atoms-length = taken_length kinds atoms few
+  pub atoms-length : length drawn.kinds ≡ d.counts.atoms
+  atoms-length = taken_length (numbers_of d) d.counts.atoms few
 
-  bonds-length : length drawn.bonds ≡ bonds
-  bonds-length = length-each bonds (bond_of one two codes)
+  pub bonds-length : length drawn.bonds ≡ d.counts.bonds
+  bonds-length = mapped_long bond_in (take d.counts.bonds d.bonds) ∙ length-take-le d.counts.bonds d.bonds (omega (arith, A.bonds, A.bonds_long))
 
-  kind-is : (p : ℕ) → p < length drawn.kinds → get_or kinds p 0 ≡ get_or drawn.kinds p 25
-  kind-is p h = sym (taken_there kinds atoms few p 25 (omega (arith, atoms-length)))
+  kind-is : (p : ℕ) → p < length drawn.kinds → get_or (numbers_of d) p 0 ≡ get_or drawn.kinds p 25
+  kind-is p h = sym (taken_there (numbers_of d) d.counts.atoms few p 25 (omega (arith, atoms-length)))
 
-  refused-with : (r : Folded) (v : ℕ) (marks : List ℕ) → v ≡ bonds_fault drawn → v ≢ 0 → r.refusal ≡ v → BondsFolded drawn marks r
-  refused-with r v marks e z q = record { refusal = q ∙ e; table = λ x. absurd (z (sym q ∙ x)); used = λ x. absurd (z (sym q ∙ x)) }
-
-  pub loop_start : (r : Bare) (marks : List ℕ) → Bares drawn.kinds r → length marks ≡ 999 → ((p : ℕ) → p < 999 → get_or marks p 0 ≡ 0) → FoldedTo drawn r.table marks 0
-  loop_start r marks B = folded_start drawn r marks B (omega (arith, atoms-length, A.few))
-
-  pub loop_done : (t : Table) (marks : List ℕ) (k : ℕ) → FoldedTo drawn t marks k → bonds ≤ k → BondsFolded drawn marks (record { refusal = 0; table = t })
-  loop_done t marks k F l =
-      let e : k ≡ length drawn.bonds = omega (arith, F.few, bonds-length) in
+  pub loop_done : (f : Folding) (k : ℕ) → FoldingTo drawn f k → d.counts.bonds ≤ k → BondsFolded drawn f 0
+  loop_done f k F l =
+      let G = F.folded in
+      let e : k ≡ length drawn.bonds = omega (arith, G.few, bonds-length) in
       record {
-        refusal = sym (F.rest ∙ rest_end (fault_at drawn) (length drawn.bonds) k (omega arith));
-        table = λ x. folded-holds drawn t marks k F e;
-        used = λ x. folded-used drawn t marks k F e;
+        refusal = sym (G.rest ∙ rest_end (fault_at drawn) (length drawn.bonds) k (omega arith));
+        table = λ x. folded-holds drawn f.table f.used k G e;
+        used = λ x. folded-used drawn f.table f.used k G e;
       }
 
-  module _ (t : Table) (marks : List ℕ) (k : ℕ) (F : FoldedTo drawn t marks k) (h : k < bonds)
-      (i j code : ℕ) (ei : i ≡ get_or one k 0) (ej : j ≡ get_or two k 0) (ec : code ≡ get_or codes k 0) where
+  module _ (f : Folding) (k : ℕ) (F : FoldingTo drawn f k) (h : k < d.counts.bonds) (x : Bond) (ex : bond_in x ≡ get_or drawn.bonds k no_bond) where
+    abbrev b : molecule.Bond
+    b = bond_in x
+
     later : k < length drawn.bonds
     later = omega (arith, bonds-length)
 
-    same : get_or drawn.bonds k no_bond ≡ table.bond_of i j code
-    same = get_or-each bonds (bond_of one two codes) k no_bond h ∙ sym (λ l. table.bond_of (ei l) (ej l) (ec l))
+    same : get_or drawn.bonds k no_bond ≡ table.bond_of x.one x.two x.code
+    same = sym ex
 
     abbrev tested : ℕ
-    tested = ends_tested kinds marks atoms (table.bond_of i j code)
+    tested = ends_in d f (bond_in x)
 
-    tested_is : tested ≡ ends drawn t marks k F later kinds kind-is i j code same
-    tested_is = ap (λ (n : ℕ). ends_tested kinds marks n (table.bond_of i j code)) (sym atoms-length)
+    tested_is : tested ≡ ends drawn f.table f.used k F.folded later (numbers_of d) kind-is x.one x.two x.code same
+    tested_is = ap (λ (n : ℕ). ends_tested (numbers_of d) f.used n (table.bond_of x.one x.two x.code)) (sym atoms-length)
 
     absent-is : tested ≢ 0 → tested ≡ bonds_fault drawn
-    absent-is z = tested_is ∙ step_absent drawn t marks k F later kinds kind-is i j code same (λ x. z (tested_is ∙ x))
+    absent-is z = tested_is ∙ step_absent drawn f.table f.used k F.folded later (numbers_of d) kind-is x.one x.two x.code same (λ y. z (tested_is ∙ y))
 
-    module _ (B : Bare) (N : Bares drawn.kinds B) where
-      module _ (z : tested ≡ 0) where
-        passed : ends drawn t marks k F later kinds kind-is i j code same ≡ 0
-        passed = sym tested_is ∙ z
+    module _ (z : tested ≡ 0) where
+      passed : ends drawn f.table f.used k F.folded later (numbers_of d) kind-is x.one x.two x.code same ≡ 0
+      passed = sym tested_is ∙ z
 
-        number-one : get_or B.numbers i 0 ≡ length (heavies_to drawn.kinds i)
-        number-one = N.numbers i (step_inside drawn t marks k F later kinds kind-is i j code same passed).0
+      number-one : get_or f.numbers x.one 0 ≡ length (heavies_to drawn.kinds x.one)
+      number-one = F.numbers x.one (step_inside drawn f.table f.used k F.folded later (numbers_of d) kind-is x.one x.two x.code same passed).0
 
-        number-two : get_or B.numbers j 0 ≡ length (heavies_to drawn.kinds j)
-        number-two = N.numbers j (step_inside drawn t marks k F later kinds kind-is i j code same passed).1
+      number-two : get_or f.numbers x.two 0 ≡ length (heavies_to drawn.kinds x.two)
+      number-two = F.numbers x.two (step_inside drawn f.table f.used k F.folded later (numbers_of d) kind-is x.one x.two x.code same passed).1
 
-      pub loop_foldable : Foldable kinds B.numbers atoms t.n marks (rows_of (arrays_of t)) (table.bond_of i j code)
-      loop_foldable = record {
-        few = A.few;
-        linkable = λ z. step_linkable drawn t marks k F later kinds kind-is i j code same (passed z) _ _ (number-one z) (number-two z);
-      }
+    pub loop_foldable : Foldable d f (bond_in x)
+    loop_foldable = record {
+      fits = A;
+      linkable = λ z. step_linkable drawn f.table f.used k F.folded later (numbers_of d) kind-is x.one x.two x.code same (passed z) _ _ (number-one z) (number-two z);
+    }
 
-      module _ (r : ℕ) (marks' : List ℕ) (R : RowArrays) (hs : List ℕ)
-          (P : BondFolded kinds B.numbers atoms t.n marks (rows_of (arrays_of t)) t.hydrogens (table.bond_of i j code) r marks' R hs) where
-        wrong_is : (z : tested ≡ 0) → r ≢ 0 → r ≡ bonds_fault drawn
-        wrong_is z = step_wrong drawn t marks k F later kinds kind-is i j code same (passed z) _ _ (number-one z) (number-two z) r R hs (P.linked z)
+    module _ (f' : Folding) (r : ℕ) (P : BondFolded d (bond_in x) f f' r) where
+      wrong_is : (z : tested ≡ 0) → r ≢ 0 → r ≡ bonds_fault drawn
+      wrong_is z = step_wrong drawn f.table f.used k F.folded later (numbers_of d) kind-is x.one x.two x.code same (passed z) _ _ (number-one z) (number-two z) r f'.table.rows f'.table.hydrogens (P.linked z)
 
-        pub loop_refused : r ≢ 0 → (s : Folded) → s.refusal ≡ r → BondsFolded drawn marks' s
-        loop_refused n s q = refused-with s r marks' (go (ℕ_discrete tested 0)) n q
-          where
-            go : Dec (tested ≡ 0) → r ≡ bonds_fault drawn
-            go (yes z) = wrong_is z n
-            go (no z) = P.absent z ∙ absent-is z
+      pub loop_refused : r ≢ 0 → BondsFolded drawn f' r
+      loop_refused n = record { refusal = go (ℕ_discrete tested 0); table = λ y. absurd (n y); used = λ y. absurd (n y) }
+        where
+          go : Dec (tested ≡ 0) → r ≡ bonds_fault drawn
+          go (yes z) = wrong_is z n
+          go (no z) = P.absent z ∙ absent-is z
 
-        pub loop_next : r ≡ 0 → FoldedTo drawn (changed t R hs) marks' (k + 1)
-        loop_next n = go (ℕ_discrete tested 0)
-          where
-            go : Dec (tested ≡ 0) → FoldedTo drawn (changed t R hs) marks' (k + 1)
-            go (yes z) =
-                subst (λ (m : List ℕ). FoldedTo drawn (changed t R hs) m (k + 1)) (sym (P.marked z n))
-                (step_next drawn t marks k F later kinds kind-is i j code same (passed z) _ _ (number-one z) (number-two z) r R hs (P.linked z) n)
-            go (no z) = absurd (z (sym (P.absent z) ∙ n))
+      pub loop_next : r ≡ 0 → FoldingTo drawn f' (k + 1)
+      loop_next n = record { folded = go (ℕ_discrete tested 0); numbers = λ p l. ap (λ (m : List ℕ). get_or m p 0) P.kept.1 ∙ F.numbers p l }
+        where
+          go : Dec (tested ≡ 0) → FoldedTo drawn f'.table f'.used (k + 1)
+          go (yes z) =
+              subst (λ (t : Table). FoldedTo drawn t f'.used (k + 1)) (sym P.kept.0)
+              (subst (λ (m : List Bool). FoldedTo drawn (changed f.table f'.table.rows f'.table.hydrogens) m (k + 1)) (sym (P.marked z n))
+              (step_next drawn f.table f.used k F.folded later (numbers_of d) kind-is x.one x.two x.code same (passed z) _ _ (number-one z) (number-two z) r f'.table.rows f'.table.hydrogens (P.linked z) n))
+          go (no z) = absurd (z (sym (P.absent z) ∙ n))

@@ -25,7 +25,7 @@ use Rattle.ctfile.specs.Filed.{Drawing}
 use Rattle.ctfile.specs.Drawings.{folded, hydrogens_fault, apart_fault}
 use Rattle.drawing.specs.Tests.{capped, hydrogens_tested}
 use Rattle.drawing.specs.Folding.{Holds}
-use Rattle.drawing.proofs.Counting.{some-here}
+use Rattle.drawing.proofs.CountLaws.{some-here}
 
 over-capped : (c : ℕ) → ltb 4 (capped c) ≡ ltb 4 c
 over-capped c = go (ltb 4 c) refl

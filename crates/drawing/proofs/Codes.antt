@@ -2,17 +2,17 @@
 use mathlib.Core.Bool.{Bool, true, false, cond, not, ◌||◌}
 use mathlib.Core.List.{List}
 use mathlib.Core.Path.{◌≡◌, refl, sym, ◌∙◌, ap, subst}
-use Prim.Native.Nat.{ℕ}
+use Prim.Native.Nat.{ℕ, min}
+use Rattle.std.proofs.Math.Nat.{min-eq_left, min-eq_right}
 use native.Mathlib.Omega.{arith}
 use lib.Dec.{eqb, leb, ltb}
-use borrow.Author.Tests.{ltb-true, ne_eqb}
+use borrow.Author.Tests.{ltb-true, ltb-false, ne_eqb}
 use Rattle.lists.proofs.Booleans.{or_neither, unless}
-use Rattle.molecule.specs.Bonds.{Bond}
 use Rattle.table.specs.Arrays.{code_found}
-use Rattle.table.specs.Changes.{bond_of, RowArrays, BondPut}
+use Rattle.table.specs.declared.rows.Rows.{Rows}
+use Rattle.table.specs.Changes.{bond_of, BondPut}
 use Rattle.card.specs.Tests.{bond_tested}
 use Rattle.drawing.specs.Tests.{capped}
-use Rattle.drawing.specs.Folding.{Linked}
 
 module _ (n : ℕ) (degrees near codes : List ℕ) (a b code byte : ℕ) (e : byte ≡ capped code) where
   zero-alike : eqb byte 0 ≡ eqb code 0
@@ -42,8 +42,13 @@ module _ (n : ℕ) (degrees near codes : List ℕ) (a b code byte : ℕ) (e : by
       let f : ltb 4 code ≡ false = sym over-alike ∙ w.1 in
       e ∙ rw f
 
-pub put_same : (R : RowArrays) (a b byte code : ℕ) (R' : RowArrays) → byte ≡ code → BondPut R a b byte R' → BondPut R a b code R'
+pub put_same : (R : Rows) (a b byte code : ℕ) (R' : Rows) → byte ≡ code → BondPut R a b byte R' → BondPut R a b code R'
 put_same R a b byte code R' e P = subst (λ (x : ℕ). BondPut R a b x R') e P
 
-pub linked-zero : (n : ℕ) (R : RowArrays) (hs : List ℕ) (kind other : ℕ) (b : Bond) (r : ℕ) (R' : RowArrays) (hs' : List ℕ) → r ≡ 0 → Linked n R hs kind other b r R' hs' → Linked n R hs kind other b 0 R' hs'
-linked-zero n R hs kind other b r R' hs' e P = subst (λ (x : ℕ). Linked n R hs kind other b x R' hs') e P
+-- a code in one byte
+pub byte_is : (code : ℕ) → min code 5 ≡ capped code
+byte_is code = go (ltb 4 code) refl
+  where
+    go : (p : Bool) → ltb 4 code ≡ p → min code 5 ≡ capped code
+    go true e = let h = ltb-true 4 code e in rw e (min-eq_right (omega arith))
+    go false e = let h = ltb-false 4 code e in rw e (min-eq_left (omega arith))

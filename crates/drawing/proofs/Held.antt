@@ -1,5 +1,5 @@
 -- With every bond folded the table is the molecule that the rules fold, its hydrogens counted to one over the limit.
-use mathlib.Core.Bool.{cond}
+use mathlib.Core.Bool.{Bool}
 use mathlib.Core.List.{List, map}
 use mathlib.Core.Path.{◌≡◌, sym, ◌∙◌, ap, ap₂}
 use Prim.Native.Nat.{ℕ, ◌<◌}
@@ -17,16 +17,16 @@ use Rattle.ctfile.specs.Drawings.{folded}
 use Rattle.drawing.specs.Tests.{capped}
 use Rattle.drawing.specs.Folding.{Holds, Used}
 use Rattle.drawing.proofs.Links.{size, place, number-place, linked, linked-code}
-use Rattle.drawing.proofs.Folding.{hydrogen_of, FoldedTo}
+use Rattle.drawing.proofs.FoldLaws.{hydrogen_of, FoldedTo}
 
 module _ (d : Drawing) (t : Table) where
   whole : (k : ℕ) → k ≡ length d.bonds → take k d.bonds ≡ d.bonds
   whole k e = ap (λ (i : ℕ). take i d.bonds) e ∙ take-length d.bonds
 
-  pub folded-used : (marks : List ℕ) (k : ℕ) → FoldedTo d t marks k → k ≡ length d.bonds → Used d marks
-  folded-used marks k F e p h = F.used p h ∙ ap (λ (bs : List Bond). cond {A = ℕ} (some (map (on p) bs)) 1 0) (whole k e)
+  pub folded-used : (marks : List Bool) (k : ℕ) → FoldedTo d t marks k → k ≡ length d.bonds → Used d marks
+  folded-used marks k F e p h = F.used p h ∙ ap (λ (bs : List Bond). some (map (on p) bs)) (whole k e)
 
-  pub folded-holds : (marks : List ℕ) (k : ℕ) → FoldedTo d t marks k → k ≡ length d.bonds → Holds d t
+  pub folded-holds : (marks : List Bool) (k : ℕ) → FoldedTo d t marks k → k ≡ length d.bonds → Holds d t
   unfolding folded rules.folded rules.heavy_places
   folded-holds marks k F e = record {
     tidy = F.rows.tidy;

@@ -1,13 +1,12 @@
 pub mod Taken
-pub mod Counting
+pub mod CountLaws
 pub mod Codes
 pub mod Bared
 pub mod Links
 pub mod Ends
-pub mod Folding
+pub mod FoldLaws
 pub mod Step
 pub mod Held
 pub mod BondLoop
 pub mod Capped
-pub mod Ended
 pub mod Whole

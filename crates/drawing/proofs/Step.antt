@@ -20,25 +20,21 @@ use Rattle.molecule.specs.Judged.{bond_judged}
 use Rattle.sling.specs.Reading as text
 use Rattle.table.specs.declared.Table.{Table}
 use Rattle.table.specs.View.{arrays_of}
-use Rattle.table.specs.Changes.{bond_of, RowArrays}
+use Rattle.table.specs.declared.rows.Rows.{Rows}
+use Rattle.table.specs.Changes.{bond_of}
 use Rattle.table.proofs.Views.{tidy-row}
-use Rattle.table.proofs.Halves.{rows_of}
 use Rattle.table.proofs.Joins.{rowed, bond-roomy, bond-joins}
 use Rattle.card.proofs.Faults.{rest_stop, rest_next, or_next-some, or_next-none}
 use Rattle.card.proofs.Bonded.{Bonded, bonded-counted, bonded-tested, bonded-joinable, bonded-next}
 use Rattle.ctfile.specs.Filed.{Drawing}
 use Rattle.ctfile.specs.Drawings.{is_h, to_h, as_read, no_bond, bond_fault, bonds_fault}
 use Rattle.drawing.specs.Tests.{capped, one_more}
-use Rattle.drawing.specs.Folding.{judged_in, Linkable, Unlinked, Linked}
+use Rattle.drawing.specs.Folding.{judged_in, Linkable, Unlinked, RowsLinked, changed}
 use Rattle.drawing.proofs.Links.{size, place, number, Inside, Heavy, is_h-there, place-number, number-place, same_number, renumbered, heavies, linked, linked-hit, linked-miss, linked-judged}
 use Rattle.drawing.proofs.Ends.{tested, ends-judged, ends-inside, ends-other}
-use Rattle.drawing.proofs.Folding.{counted-more, marked_more, hydrogen_of, fault_at, FoldedTo}
+use Rattle.drawing.proofs.FoldLaws.{counted-more, marked_more, hydrogen_of, fault_at, FoldedTo}
 
--- the same table with other rows and hydrogens
-abbrev pub changed : Table → RowArrays → List ℕ → Table
-changed t R hs = record { n = t.n; kinds = t.kinds; hydrogens = hs; degrees = R.degrees; near = R.near; codes = R.codes }
-
-module _ (d : Drawing) (t : Table) (marks : List ℕ) (k : ℕ) (F : FoldedTo d t marks k) (h : k < length d.bonds)
+module _ (d : Drawing) (t : Table) (marks : List Bool) (k : ℕ) (F : FoldedTo d t marks k) (h : k < length d.bonds)
     (kinds : List ℕ) (K : (p : ℕ) → p < length d.kinds → get_or kinds p 0 ≡ get_or d.kinds p 25)
     (i j code : ℕ) (same : get_or d.bonds k no_bond ≡ bond_of i j code) where
   abbrev b : Bond
@@ -98,10 +94,10 @@ module _ (d : Drawing) (t : Table) (marks : List ℕ) (k : ℕ) (F : FoldedTo d 
       c_is : c ≡ renumbered d b
       c_is = λ l. bond_of (ex l) (ey l) code
 
-      tested_is : judged_in t.n (rows_of (arrays_of t)) c ≡ bond_judged (size d) (linked d bs) c
-      tested_is = ap (λ (n : ℕ). judged_in n (rows_of (arrays_of t)) c) F.rows.size ∙ bonded-tested (size d) (linked d bs) t F.rows c
+      tested_is : judged_in t.n t.rows c ≡ bond_judged (size d) (linked d bs) c
+      tested_is = ap (λ (n : ℕ). judged_in n t.rows c) F.rows.size ∙ bonded-tested (size d) (linked d bs) t F.rows c
 
-      pub step_linkable : Linkable t.n (rows_of (arrays_of t)) (get_or kinds i 0) (get_or kinds j 0) c
+      pub step_linkable : Linkable t (get_or kinds i 0) (get_or kinds j 0) c
       step_linkable = record {
         rows = λ a l. tidy-row (arrays_of t) F.rows.tidy a l;
         one = λ e. omega (arith, ey, few, (place-number d j (heavy-two e)).0);
@@ -109,11 +105,11 @@ module _ (d : Drawing) (t : Table) (marks : List ℕ) (k : ℕ) (F : FoldedTo d 
         bond = λ q. bond-roomy (arrays_of t) F.rows.tidy x y code (bonded-joinable (size d) (linked d bs) t F.rows c (sym tested_is ∙ q));
       }
 
-      module _ (r : ℕ) (R : RowArrays) (hs : List ℕ) (P : Linked t.n (rows_of (arrays_of t)) t.hydrogens (get_or kinds i 0) (get_or kinds j 0) c r R hs) where
+      module _ (r : ℕ) (R : Rows) (hs : List ℕ) (P : RowsLinked t.n t.rows t.hydrogens (get_or kinds i 0) (get_or kinds j 0) c r R hs) where
         -- what the rest is, where the rows and the hydrogens have been changed
         folded-next : fault_at d k ≡ 0 → Bonded (size d) (linked d (bs ++ (b ∷ []))) (changed t R hs)
             → ((a : ℕ) → a < size d → get_or hs a 0 ≡ capped (count (map (hydrogen_of d (place d a)) (bs ++ (b ∷ [])))))
-            → FoldedTo d (changed t R hs) (set (set marks i 1) j 1) (k + 1)
+            → FoldedTo d (changed t R hs) (set (set marks i true) j true) (k + 1)
         folded-next e B H = record {
           few = omega arith;
           atoms = F.atoms;
@@ -121,15 +117,15 @@ module _ (d : Drawing) (t : Table) (marks : List ℕ) (k : ℕ) (F : FoldedTo d 
           kinds = F.kinds;
           hydrogens = λ a l. rw one_bond_more (H a l);
           ends = rw one_bond_more (all_snoc (Inside d) bs b F.ends I);
-          long = length-set (set marks i 1) j 1 ∙ length-set marks i 1 ∙ F.long;
+          long = length-set (set marks i true) j true ∙ length-set marks i true ∙ F.long;
           used = λ p l. rw one_bond_more (marks-are p l);
           rest = F.rest ∙ rest_next (fault_at d) (length d.bonds) k h e;
         }
           where
-            marks-are : (p : ℕ) → p < length d.kinds → get_or (set (set marks i 1) j 1) p 0 ≡ cond (some (map (on p) (bs ++ (b ∷ [])))) 1 0
+            marks-are : (p : ℕ) → p < length d.kinds → get_or (set (set marks i true) j true) p false ≡ some (map (on p) (bs ++ (b ∷ [])))
             marks-are p l =
                 marked_more marks i j p (some (map (on p) bs)) (omega (arith, F.long, I.0, F.atoms)) (omega (arith, F.long, I.1, F.atoms)) (F.used p l)
-                ∙ ap (λ (s : Bool). cond {A = ℕ} s 1 0) (sym (some-snoc (on p) bs b))
+                ∙ sym (some-snoc (on p) bs b)
 
         fault_none : to_h d b ≡ true → fault_at d k ≡ 0
         fault_none e = fault_is ∙ ap (λ (p : Bool). cond p 0 (bond_judged (length d.kinds) (heavies d bs) b)) e
@@ -143,16 +139,16 @@ module _ (d : Drawing) (t : Table) (marks : List ℕ) (k : ℕ) (F : FoldedTo d 
 
         -- a bond to an H, q its other end
         module _ (q v : ℕ) (Q : Heavy d q) (ev : v ≡ number d q) (e : to_h d b ≡ true) (only : (p : ℕ) → Heavy d p → on p b ≡ eqb q p)
-            (U : Unlinked (rows_of (arrays_of t)) t.hydrogens v r R hs) where
+            (U : Unlinked t.rows t.hydrogens v r R hs) where
           counted-here : (a : ℕ) → a < size d → (on (place d a) b && to_h d b) ≡ eqb v a
           counted-here a l =
               let N = number-place d a l in
               rw (e, and-true (on (place d a) b)) (only (place d a) N.0 ∙ sym (same_number d q (place d a) Q N.0) ∙ ap₂ eqb (sym ev) N.1)
 
-          unlinked_next : FoldedTo d (changed t R hs) (set (set marks i 1) j 1) (k + 1)
+          unlinked_next : FoldedTo d (changed t R hs) (set (set marks i true) j true) (k + 1)
           unlinked_next =
               folded-next (fault_none e)
-              (subst (λ (S : RowArrays). Bonded (size d) (linked d (bs ++ (b ∷ []))) (changed t S hs)) (sym U.rows)
+              (subst (λ (S : Rows). Bonded (size d) (linked d (bs ++ (b ∷ []))) (changed t S hs)) (sym U.rows)
               (rw (linked-miss d bs b e) (bonded-counted (size d) (linked d bs) t F.rows hs (ap length U.hydrogens ∙ length-set t.hydrogens v (one_more (get_or t.hydrogens v 0)) ∙ F.rows.tidy.hydrogens_long))))
               (λ a l.
               ap (λ (g : List ℕ). get_or g a 0) U.hydrogens
@@ -185,7 +181,7 @@ module _ (d : Drawing) (t : Table) (marks : List ℕ) (k : ℕ) (F : FoldedTo d 
           linked-fault : r ≡ fault_at d k
           linked-fault = P.judged u w ∙ tested_is ∙ judged
 
-          linked-next : r ≡ 0 → FoldedTo d (changed t R hs) (set (set marks i 1) j 1) (k + 1)
+          linked-next : r ≡ 0 → FoldedTo d (changed t R hs) (set (set marks i true) j true) (k + 1)
           linked-next e =
               let passes = judged ∙ sym linked-fault ∙ e in
               let J = bonded-joinable (size d) (linked d bs) t F.rows c passes in
@@ -211,10 +207,10 @@ module _ (d : Drawing) (t : Table) (marks : List ℕ) (k : ℕ) (F : FoldedTo d 
         pub step_wrong : r ≢ 0 → r ≡ bonds_fault d
         step_wrong n = step_fault ∙ sym (F.rest ∙ rest_stop (fault_at d) (length d.bonds) k h (λ q. n (step_fault ∙ q)))
 
-        next-by : r ≡ 0 → Dec (get_or kinds i 0 ≡ 0) → Dec (get_or kinds j 0 ≡ 0) → FoldedTo d (changed t R hs) (set (set marks i 1) j 1) (k + 1)
+        next-by : r ≡ 0 → Dec (get_or kinds i 0 ≡ 0) → Dec (get_or kinds j 0 ≡ 0) → FoldedTo d (changed t R hs) (set (set marks i true) j true) (k + 1)
         next-by n (yes e) f = unlinked_next j y (heavy-two e) ey (to_one e) (only_two e) (P.one e)
         next-by n (no e) (yes f) = unlinked_next i x (heavy-one f) ex (to-two f) (only_one f) (P.two e f)
         next-by n (no e) (no f) = linked-next e f n
 
-        pub step_next : r ≡ 0 → FoldedTo d (changed t R hs) (set (set marks i 1) j 1) (k + 1)
+        pub step_next : r ≡ 0 → FoldedTo d (changed t R hs) (set (set marks i true) j true) (k + 1)
         step_next n = next-by n (ℕ_discrete (get_or kinds i 0) 0) (ℕ_discrete (get_or kinds j 0) 0)

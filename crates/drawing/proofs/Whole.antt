@@ -1,30 +1,33 @@
 -- A drawing judged, put together: the first refusal in the order of document 02 stands.
 use mathlib.Core.Bool.{Bool, true, false, cond, not, ◌&&◌}
 use mathlib.Core.List.{List, map}
-use mathlib.Core.Logic.{◌≢◌}
-use mathlib.Core.Path.{◌≡◌, refl, sym, ◌∙◌, ap, ap₂, subst}
+use mathlib.Core.Path.{◌≡◌, refl, sym, ◌∙◌, ap, ap₂}
 use Prim.Native.Nat.{ℕ, zero, suc, ◌<◌, ◌≤◌}
 use native.Mathlib.Omega.{arith}
 use lib.Dec.{eqb}
-use lib.ListN.{length, get_or, take}
+use lib.ListN.{length, get_or}
+use Rattle.std.specs.Prelude.{Ok, Err}
 use Rattle.lists.specs.Upto.{each}
-use Rattle.lists.specs.Tests.{count, some}
-use Rattle.lists.proofs.Upto.{each-eq, map_each}
+use Rattle.lists.specs.Tests.{some}
+use Rattle.lists.proofs.Upto.{each-eq}
 use Rattle.molecule.specs.Bonds.{on}
+use Rattle.molecule.specs.Molecule.{connected}
 use Rattle.molecule.specs.Refusals.{or_next}
-use Rattle.molecule.specs.Renumbering.{Renumbered}
-use Rattle.sling.specs.Folded as rules
-use Rattle.table.specs.declared.Table.{Table}
+use Rattle.sling.specs.Folded as text
+use Rattle.refusal.specs.declared.Refusal.{Refusal}
+use Rattle.refusal.specs.Numbers.{number_of}
 use Rattle.table.specs.View.{view_of, TidyTable, EvenTable}
-use Rattle.card.proofs.Faults.{or_next-some, or_next-none}
+use Rattle.card.proofs.Faults.{number_of-some, or_next-some, or_next-none}
 use Rattle.card.proofs.Whole.{counts_low}
-use Rattle.ctfile.specs.Filed.{Drawing}
-use Rattle.ctfile.specs.Drawings.{is_h, to_h, folded, counts_fault, kinds_fault, bonds_fault, lone_fault, hydrogens_fault, apart_fault, drawing_fault}
-use Rattle.drawing.specs.declared.Folded.{Folded}
-use Rattle.drawing.specs.View.{bond_of, drawing_in}
-use Rattle.drawing.specs.Tests.{HasAtoms, heavy_in, heavy_bonds_in, counts_tested, unknown_tested, lone_in, hydrogens_tested}
-use Rattle.drawing.specs.Folding.{Holds, Used, BondsFolded, Finished, IsFolded}
-use Rattle.drawing.proofs.Taken.{taken_length, taken_there}
+use Rattle.ctfile.specs.Filed as rules
+use Rattle.ctfile.specs.Drawings.{is_h, folded, counts_fault, kinds_fault, bonds_fault, lone_fault, hydrogens_fault, apart_fault, drawing_fault}
+use Rattle.kinds.specs.Known.{kind_in}
+use Rattle.drawing.specs.declared.Drawing.{Drawing}
+use Rattle.drawing.specs.declared.folding.Folding.{Folding}
+use Rattle.drawing.specs.View.{numbers_of, kinds_in, bonds_in, drawing_in, Fits}
+use Rattle.drawing.specs.Tests.{heavy_in, heavy_bonds_in, counts_tested, unknown_tested, lone_in, hydrogens_tested}
+use Rattle.drawing.specs.Folding.{Holds, Used, BondsFolded, finished_fault, IsFolded}
+use Rattle.drawing.proofs.Taken.{mapped_long, taken_length, taken_there}
 use Rattle.drawing.proofs.Bared.{heavies_all}
 use Rattle.drawing.proofs.Held.{holds_even}
 use Rattle.drawing.proofs.Capped.{hydrogens-view, holds_view, ended-alike}
@@ -34,87 +37,108 @@ or_next-zero : (m n : ℕ) → or_next m n ≡ 0 → (m ≡ 0) × (n ≡ 0)
 or_next-zero zero n e = (refl, e)
 or_next-zero (suc m) n e = absurd (omega arith)
 
-module _ (kinds one two codes : List ℕ) (atoms bonds : ℕ) (A : HasAtoms kinds atoms) where
-  abbrev d : Drawing
-  d = drawing_in kinds one two codes atoms bonds
+-- what is judged once all bonds are: each return is the first fault in the order of the rules
+module _ (d : Drawing) (f : Folding) where
+  abbrev ended : ℕ
+  ended = or_next (hydrogens_fault (view_of f.table)) (apart_fault (view_of f.table))
 
-  few : atoms ≤ length kinds
-  few = omega (arith, A.few, A.long)
+  lone-is : (p : Bool) → p ≡ lone_in (numbers_of d) f.used d.counts.atoms → finished_fault d f ≡ or_next (cond p 7 0) ended
+  lone-is p e = ap (λ (s : Bool). or_next (cond s 7 0) ended) (sym e)
 
-  refuse : (r : Folded) (v : ℕ) → drawing_fault d ≡ v → v ≢ 0 → r.refusal ≡ v → IsFolded d r
-  refuse r v e z q = record { refusal = q ∙ sym e; tidy = λ x. absurd (z (sym q ∙ x)); view = λ x. absurd (z (sym q ∙ x)) }
+  pub ended-lone : (p : Bool) → p ≡ lone_in (numbers_of d) f.used d.counts.atoms → p ≡ true → 7 ≡ finished_fault d f
+  ended-lone p e t = sym (lone-is p e ∙ ap (λ (s : Bool). or_next (cond s 7 0) ended) t)
 
-  lone_alike : (marks : List ℕ) → Used d marks → lone_fault d ≡ cond (lone_in kinds marks atoms) 7 0
+  module _ (p : Bool) (e : p ≡ lone_in (numbers_of d) f.used d.counts.atoms) (t : p ≡ false) where
+    after-lone : finished_fault d f ≡ ended
+    after-lone = lone-is p e ∙ ap (λ (s : Bool). or_next (cond s 7 0) ended) t
+
+    pub ended-hydrogens : (r : Refusal) → number_of r ≡ hydrogens_tested f.table.hydrogens f.table.n → number_of r ≡ finished_fault d f
+    ended-hydrogens r g =
+        let h = g ∙ hydrogens-view f.table in
+        h ∙ sym (after-lone ∙ or_next-some _ _ (λ x. number_of-some r (h ∙ x)))
+
+    module _ (z : 0 ≡ hydrogens_tested f.table.hydrogens f.table.n) (s : Bool) (k : s ≡ connected (view_of f.table)) where
+      apart : finished_fault d f ≡ cond s 0 8
+      unfolding apart_fault
+      apart = after-lone ∙ or_next-none _ _ (sym (z ∙ hydrogens-view f.table)) ∙ ap (λ (c : Bool). cond {A = ℕ} c 0 8) (sym k)
+
+      pub ended-apart : s ≡ false → 8 ≡ finished_fault d f
+      ended-apart x = sym (apart ∙ ap (λ (c : Bool). cond {A = ℕ} c 0 8) x)
+
+      pub ended-whole : s ≡ true → 0 ≡ finished_fault d f
+      ended-whole x = sym (apart ∙ ap (λ (c : Bool). cond {A = ℕ} c 0 8) x)
+
+module _ (d : Drawing) (A : Fits d) where
+  abbrev drawn : rules.Drawing
+  drawn = drawing_in d
+
+  few : d.counts.atoms ≤ length (numbers_of d)
+  few = omega (arith, A.atoms, A.kinds_long, mapped_long kind_in d.kinds)
+
+  refuse : (r : Refusal) → number_of r ≡ drawing_fault drawn → IsFolded drawn (Err r)
+  refuse r e = record { refusal = e; tidy = tt; view = tt }
+
+  lone_alike : (marks : List Bool) → Used drawn marks → lone_fault drawn ≡ cond (lone_in (numbers_of d) marks d.counts.atoms) 7 0
   unfolding lone_fault
   lone_alike marks U =
       ap (λ (l : List Bool). cond {A = ℕ} (some l) 7 0)
-      (ap (λ (n : ℕ). each n (λ p. is_h d p && not (some (map (on p) d.bonds)))) (taken_length kinds atoms few)
-      ∙ each-eq atoms (λ p. is_h d p && not (some (map (on p) d.bonds))) (λ p. eqb (get_or kinds p 0) 0 && eqb (get_or marks p 0) 0)
-      (λ p h. ap₂ ◌&&◌ (ap (λ (k : ℕ). eqb k 0) (taken_there kinds atoms few p 25 h)) (sym (ap (λ (k : ℕ). eqb k 0) (U p (omega (arith, taken_length kinds atoms few))) ∙ none (some (map (on p) d.bonds))))))
-    where
-      none : (s : Bool) → eqb (cond {A = ℕ} s 1 0) 0 ≡ not s
-      none true = refl
-      none false = refl
+      (ap (λ (n : ℕ). each n (λ p. is_h drawn p && not (some (map (on p) drawn.bonds)))) (taken_length (numbers_of d) d.counts.atoms few)
+      ∙ each-eq d.counts.atoms (λ p. is_h drawn p && not (some (map (on p) drawn.bonds))) (λ p. eqb (get_or (numbers_of d) p 0) 0 && not (get_or marks p false))
+      (λ p h. ap₂ ◌&&◌ (ap (λ (k : ℕ). eqb k 0) (taken_there (numbers_of d) d.counts.atoms few p 25 h))
+      (ap not (sym (U p (omega (arith, taken_length (numbers_of d) d.counts.atoms few)))))))
 
-  folded-size : (folded d).size ≡ heavy_in (take atoms kinds)
-  unfolding folded rules.folded rules.heavy_places
-  folded-size = heavies_all d.kinds
+  folded-size : (folded drawn).size ≡ heavy_in (kinds_in d)
+  unfolding folded text.folded text.heavy_places
+  folded-size = heavies_all drawn.kinds
 
-  module _ (v : ℕ) (e : v ≡ counts_tested (heavy_in (take atoms kinds)) (heavy_bonds_in (take atoms kinds) one two bonds)) where
-    counts : v ≡ counts_fault d
-    unfolding counts_fault
-    counts = e ∙ ap (λ (m : ℕ). counts_tested (heavy_in (take atoms kinds)) m) (ap count (sym (map_each (λ b. not (to_h d b)) bonds (bond_of one two codes))))
+  abbrev later : ℕ
+  later = or_next (bonds_fault drawn) (or_next (lone_fault drawn) (or_next (hydrogens_fault (folded drawn)) (apart_fault (folded drawn))))
 
-    start : drawing_fault d ≡ or_next v (or_next (kinds_fault d) (or_next (bonds_fault d) (or_next (lone_fault d) (or_next (hydrogens_fault (folded d)) (apart_fault (folded d))))))
-    unfolding drawing_fault
-    start = ap (λ (m : ℕ). or_next m (or_next (kinds_fault d) (or_next (bonds_fault d) (or_next (lone_fault d) (or_next (hydrogens_fault (folded d)) (apart_fault (folded d))))))) (sym counts)
+  start : drawing_fault drawn ≡ or_next (counts_tested (heavy_in (kinds_in d)) (heavy_bonds_in (kinds_in d) (bonds_in d))) (or_next (kinds_fault drawn) later)
+  unfolding drawing_fault counts_fault
+  start = refl
 
-    pub whole-counts : v ≢ 0 → (r : Folded) → r.refusal ≡ v → IsFolded d r
-    whole-counts z r q = refuse r v (start ∙ or_next-some v _ z) z q
+  pub whole-counts : (r : Refusal) → number_of r ≡ counts_tested (heavy_in (kinds_in d)) (heavy_bonds_in (kinds_in d) (bonds_in d)) → IsFolded drawn (Err r)
+  whole-counts r e = refuse r (e ∙ sym (start ∙ or_next-some _ _ (λ x. number_of-some r (e ∙ x))))
 
-    module _ (z : v ≡ 0) where
-      low : (0 < heavy_in (take atoms kinds)) × (heavy_in (take atoms kinds) ≤ 64)
-      low = counts_low (heavy_in (take atoms kinds)) (heavy_bonds_in (take atoms kinds) one two bonds) (sym e ∙ z)
+  module _ (z : 0 ≡ counts_tested (heavy_in (kinds_in d)) (heavy_bonds_in (kinds_in d) (bonds_in d))) where
+    low : (0 < heavy_in (kinds_in d)) × (heavy_in (kinds_in d) ≤ 64)
+    low = counts_low (heavy_in (kinds_in d)) (heavy_bonds_in (kinds_in d) (bonds_in d)) (sym z)
 
-      pub whole-few : heavy_in (take atoms kinds) ≤ 64
-      whole-few = low.1
+    pub whole-few : heavy_in (kinds_in d) ≤ 64
+    whole-few = low.1
 
-      module _ (u : ℕ) (f : u ≡ unknown_tested (take atoms kinds)) where
-        after-counts : drawing_fault d ≡ or_next u (or_next (bonds_fault d) (or_next (lone_fault d) (or_next (hydrogens_fault (folded d)) (apart_fault (folded d)))))
-        unfolding kinds_fault
-        after-counts =
-            start ∙ or_next-none v _ z
-            ∙ ap (λ (m : ℕ). or_next m (or_next (bonds_fault d) (or_next (lone_fault d) (or_next (hydrogens_fault (folded d)) (apart_fault (folded d)))))) (sym f)
+    after-counts : drawing_fault drawn ≡ or_next (unknown_tested (kinds_in d)) later
+    unfolding kinds_fault
+    after-counts = start ∙ or_next-none _ _ (sym z)
 
-        pub whole-unknown : u ≢ 0 → (r : Folded) → r.refusal ≡ u → IsFolded d r
-        whole-unknown y r q = refuse r u (after-counts ∙ or_next-some u _ y) y q
+    pub whole-unknown : (r : Refusal) → number_of r ≡ unknown_tested (kinds_in d) → IsFolded drawn (Err r)
+    whole-unknown r e = refuse r (e ∙ sym (after-counts ∙ or_next-some _ _ (λ x. number_of-some r (e ∙ x))))
 
-        module _ (y : u ≡ 0) (marks : List ℕ) (b : Folded) (B : BondsFolded d marks b) where
-          after-kinds : drawing_fault d ≡ or_next b.refusal (or_next (lone_fault d) (or_next (hydrogens_fault (folded d)) (apart_fault (folded d))))
-          after-kinds =
-              after-counts ∙ or_next-none u _ y ∙ ap (λ (m : ℕ). or_next m (or_next (lone_fault d) (or_next (hydrogens_fault (folded d)) (apart_fault (folded d))))) (sym B.refusal)
+    module _ (y : 0 ≡ unknown_tested (kinds_in d)) where
+      after-kinds : drawing_fault drawn ≡ later
+      after-kinds = after-counts ∙ or_next-none _ _ (sym y)
 
-          pub whole-bonds : b.refusal ≢ 0 → IsFolded d b
-          whole-bonds x = refuse b b.refusal (after-kinds ∙ or_next-some b.refusal _ x) x refl
+      pub whole-bonds : (f : Folding) (r : Refusal) → BondsFolded drawn f (number_of r) → IsFolded drawn (Err r)
+      whole-bonds f r B = refuse r (B.refusal ∙ sym (after-kinds ∙ or_next-some _ _ (λ x. number_of-some r (B.refusal ∙ x))))
 
-          module _ (x : b.refusal ≡ 0) where
-            holds : Holds d b.table
-            holds = B.table x
+      module _ (f : Folding) (B : BondsFolded drawn f 0) where
+        holds : Holds drawn f.table
+        holds = B.table refl
 
-            pub whole_ready : TidyTable b.table × EvenTable b.table × (0 < b.table.n)
-            whole_ready = (holds.tidy, holds_even d b.table holds, omega (arith, holds.size, folded-size, low.0))
+        pub whole_ready : TidyTable f.table × EvenTable f.table × (0 < f.table.n)
+        whole_ready = (holds.tidy, holds_even drawn f.table holds, omega (arith, holds.size, folded-size, low.0))
 
-            after-bonds : drawing_fault d ≡ or_next (cond (lone_in kinds marks atoms) 7 0) (or_next (hydrogens_fault (view_of b.table)) (apart_fault (view_of b.table)))
-            after-bonds = after-kinds ∙ or_next-none b.refusal _ x ∙ ap₂ or_next (lone_alike marks (B.used x)) (ended-alike d b.table holds)
+        after-bonds : drawing_fault drawn ≡ finished_fault d f
+        after-bonds = after-kinds ∙ or_next-none _ _ (sym B.refusal) ∙ ap₂ or_next (lone_alike f.used (B.used refl)) (ended-alike drawn f.table holds)
 
-            pub whole-ended : (r : Folded) → Finished kinds marks atoms b.table r → IsFolded d r
-            whole-ended r R = record {
-              refusal = R.refusal ∙ sym after-bonds;
-              tidy = λ q. subst TidyTable (sym (R.table q)) holds.tidy;
-              view = λ q. subst (λ (t : Table). Renumbered (λ a. a) (folded d) (view_of t)) (sym (R.table q)) (holds_view d b.table holds (exact q));
-            }
-              where
-                exact : r.refusal ≡ 0 → hydrogens_tested b.table.hydrogens b.table.n ≡ 0
-                exact q =
-                    let w = or_next-zero (cond (lone_in kinds marks atoms) 7 0) (or_next (hydrogens_fault (view_of b.table)) (apart_fault (view_of b.table))) (sym R.refusal ∙ q) in
-                    hydrogens-view b.table ∙ (or_next-zero (hydrogens_fault (view_of b.table)) (apart_fault (view_of b.table)) w.1).0
+        pub whole-finished : (r : Refusal) → number_of r ≡ finished_fault d f → IsFolded drawn (Err r)
+        whole-finished r e = refuse r (e ∙ sym after-bonds)
+
+        pub whole-ended : 0 ≡ finished_fault d f → IsFolded drawn (Ok f.table)
+        whole-ended e = record { refusal = e ∙ sym after-bonds; tidy = holds.tidy; view = holds_view drawn f.table holds exact }
+          where
+            exact : hydrogens_tested f.table.hydrogens f.table.n ≡ 0
+            exact =
+                let w = or_next-zero (cond (lone_in (numbers_of d) f.used d.counts.atoms) 7 0) (or_next (hydrogens_fault (view_of f.table)) (apart_fault (view_of f.table))) (sym e) in
+                hydrogens-view f.table ∙ (or_next-zero (hydrogens_fault (view_of f.table)) (apart_fault (view_of f.table)) w.1).0

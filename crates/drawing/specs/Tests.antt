@@ -1,18 +1,9 @@
 -- The tests of a drawing, over the arrays that hold it.
-use Rattle.std.specs.Prelude.{Bool, cond, not, ◌&&◌, ◌||◌, List, map, ◌≡◌, ℕ, ◌+◌, ◌≤◌, eqb, leb, ltb, length, get_or}
+use Rattle.std.specs.Prelude.{Bool, false, cond, not, ◌&&◌, ◌||◌, List, map, ℕ, ◌+◌, eqb, leb, ltb, get_or}
 use Rattle.lists.specs.Upto.{each, sum}
 use Rattle.lists.specs.Tests.{count, some}
 use Rattle.molecule.specs.Bonds.{Bond}
 use Rattle.molecule.specs.Refusals.{first_fault}
-
--- the array has the kinds of so many atoms
-pub record HasAtoms (kinds : List ℕ) (atoms : ℕ) : Type 0 where
-  pub few : atoms ≤ 999
-  pub long : length kinds ≡ 999
-
-pub record Bit (b : Bool) (r : ℕ) : Type 0 where
-  pub is : r ≡ cond b 1 0
-  pub small : r ≤ 1
 
 -- an H that is there
 abbrev pub is_h_in : (kinds : List ℕ) → ℕ → Bool
@@ -22,8 +13,8 @@ is_h_in kinds p = eqb (get_or kinds p 25) 0
 abbrev pub heavy_in : (kinds : List ℕ) → ℕ
 heavy_in kinds = count (map (λ k. not (eqb k 0)) kinds)
 
-abbrev pub heavy_bonds_in : (kinds one two : List ℕ) → (bonds : ℕ) → ℕ
-heavy_bonds_in kinds one two bonds = count (each bonds (λ k. not (is_h_in kinds (get_or one k 0) || is_h_in kinds (get_or two k 0))))
+abbrev pub heavy_bonds_in : (kinds : List ℕ) → (bonds : List Bond) → ℕ
+heavy_bonds_in kinds bonds = count (map (λ b. not (is_h_in kinds b.one || is_h_in kinds b.two)) bonds)
 
 -- "H alone is 1"
 abbrev pub counts_tested : (atoms bonds : ℕ) → ℕ
@@ -34,15 +25,15 @@ abbrev pub unknown_tested : (kinds : List ℕ) → ℕ
 unknown_tested kinds = first_fault (map (λ k. cond (ltb 24 k) 3 0) kinds)
 
 -- "7 for a bond with an H at an end: the other end is H (itself included), the code is not 1, or that H has a bond already."
-abbrev pub h_tested : (other used code : ℕ) → ℕ
-h_tested other used code = cond (eqb other 0 || not (eqb code 1) || not (eqb used 0)) 7 0
+abbrev pub h_tested : (other : ℕ) → (used : Bool) → (code : ℕ) → ℕ
+h_tested other used code = cond (eqb other 0 || not (eqb code 1) || used) 7 0
 
 -- 5, then 7: `used` marks the atoms that have a bond
-unfoldable pub ends_tested : (kinds used : List ℕ) → (atoms : ℕ) → Bond → ℕ
+unfoldable pub ends_tested : (kinds : List ℕ) → (used : List Bool) → (atoms : ℕ) → Bond → ℕ
 ends_tested kinds used atoms b =
     cond (leb atoms b.one || leb atoms b.two) 5
-    (cond (eqb (get_or kinds b.one 0) 0) (h_tested (get_or kinds b.two 0) (get_or used b.one 0) b.code)
-    (cond (eqb (get_or kinds b.two 0) 0) (h_tested (get_or kinds b.one 0) (get_or used b.two 0) b.code) 0))
+    (cond (eqb (get_or kinds b.one 0) 0) (h_tested (get_or kinds b.two 0) (get_or used b.one false) b.code)
+    (cond (eqb (get_or kinds b.two 0) 0) (h_tested (get_or kinds b.one 0) (get_or used b.two false) b.code) 0))
 
 -- "0 to 4 hydrogens", and codes 1 to 4: what is over 4 need not be told apart
 abbrev pub capped : ℕ → ℕ
@@ -53,8 +44,8 @@ abbrev pub one_more : ℕ → ℕ
 one_more h = cond (ltb 4 h) h (h + 1)
 
 -- "an H without a bond"
-abbrev pub lone_in : (kinds used : List ℕ) → (atoms : ℕ) → Bool
-lone_in kinds used atoms = some (each atoms (λ p. eqb (get_or kinds p 0) 0 && eqb (get_or used p 0) 0))
+abbrev pub lone_in : (kinds : List ℕ) → (used : List Bool) → (atoms : ℕ) → Bool
+lone_in kinds used atoms = some (each atoms (λ p. eqb (get_or kinds p 0) 0 && not (get_or used p false)))
 
 -- "hydrogens on one atom and their total are 4"
 abbrev pub hydrogens_tested : (hydrogens : List ℕ) → (n : ℕ) → ℕ

@@ -133,6 +133,15 @@ unknown-symbol s h = go (dec_lt (kind_of_symbol s) 25)
     go (yes l) = absurd (h (omega arith))
     go (no l) = omega (arith, find-le (λ e. compare_is_eq (lex compare e.symbol s)) kinds)
 
+-- what is looked up is a kind or the number of none
+pub kind_of_number-low : (z : ℕ) → kind_of_number z ≤ 25
+unfolding kind_of_number kinds
+kind_of_number-low z = find-le (λ e. eqb e.number z) kinds
+
+pub kind_of_symbol-low : (s : List ℕ) → kind_of_symbol s ≤ 25
+unfolding kind_of_symbol kinds
+kind_of_symbol-low s = find-le (λ e. compare_is_eq (lex compare e.symbol s)) kinds
+
 low-numbers : every (each 25 (λ k. leb (number_of k) 83)) ≡ true
 unfolding every each from kinds number_of
 low-numbers = refl

@@ -1,13 +1,32 @@
 // The 24 kinds of document 01 in constant arrays: kind, symbol and atomic number looked up from each other.
-// Kind 0 is H, which occurs only in text, and 25 is the number of no kind.
 #![tactic(auto)]
 
-ghost use Rattle.std.specs.Prelude.{◌≡◌, [], ◌∷◌, ◌≤◌, get_or};
+ghost use Rattle.std.specs.Prelude.{◌≡◌, [], ◌∷◌, ℕ, ◌≤◌, get_or};
 ghost use Rattle.molecule.specs.Kinds.{symbol_of, number_of, kind_of_symbol, kind_of_number};
+ghost use Rattle.kinds.specs.Known.{kind_in, letter_in};
+
+use std::marker::Model;
+
+/// One of the 24 kinds by its number from 1, or H, which occurs only in text and in a molfile and is 0.
+#[derive(Clone, Copy, PartialEq, Eq, PartialOrd, Ord, Drop)]
+pub struct Kind {
+    number: u8,
+}
+
+impl Model for Kind {
+    ghost Value = { ℕ };
+
+    ghost view = { λ k. k.number };
+
+    ghost invariant = { λ k. k.number ≤ 24 };
+
+    ghost inverse = { λ n. record { number = n } };
+}
 
 const COUNT: usize = 25;
 
-pub const NO_KIND: u8 = 25;
+// In the arrays that are looked up by a number or a letter, what no kind has.
+const NONE: u8 = 25;
 
 // By kind: H C Si Ge Sn Pb N P As Sb Bi O S Se Te F Cl Br I B Al Li Na K Mg.
 const NUMBERS: [u8; COUNT] = [
@@ -39,74 +58,82 @@ const BY_CAPITAL: [u8; 26] = [
     25,
 ];
 
-fn wide(x: u8) -> usize
-    ensures { result ≡ x }
-{
-    x as usize
-}
+impl Kind {
+    pub const H: Kind = Kind { number: 0 };
 
-pub fn number_of(kind: u8) -> u8
-    requires { kind ≤ 24 }
-    ensures { result ≡ number_of kind }
-{
-    NUMBERS[wide(kind)]
-}
-
-pub fn kind_of_number(number: u8) -> u8
-    ensures { result ≡ kind_of_number number }
-{
-    let z = wide(number);
-    if 83 < z {
-        return NO_KIND;
+    fn at(number: u8) -> Option<Kind>
+        requires { number ≤ 25 }
+        ensures { kind_in result ≡ number }
+    {
+        if number == NONE {
+            return None;
+        }
+        Some(Kind { number })
     }
-    BY_NUMBER[z]
-}
 
-// The symbol's first letter.
-pub fn capital_of(kind: u8) -> u8
-    requires { kind ≤ 24 }
-    ensures { result ≡ get_or (symbol_of kind) 0 0 }
-{
-    CAPITALS[wide(kind)]
-}
-
-// The symbol's second letter, 0 where it has one.
-pub fn small_of(kind: u8) -> u8
-    requires { kind ≤ 24 }
-    ensures { result ≡ get_or (symbol_of kind) 1 0 }
-{
-    SMALLS[wide(kind)]
-}
-
-// The kind whose symbol is this letter alone.
-pub fn kind_of_capital(letter: u8) -> u8
-    ensures { result ≡ kind_of_symbol (letter ∷ []) }
-{
-    if letter < b'A' {
-        return NO_KIND;
+    pub fn of_number(number: u8) -> Option<Kind>
+        ensures { kind_in result ≡ kind_of_number number }
+    {
+        if 83 < number {
+            return None;
+        }
+        let kind = BY_NUMBER[number as usize];
+        Kind::at(kind)
     }
-    if b'Z' < letter {
-        return NO_KIND;
-    }
-    BY_CAPITAL[wide(letter - b'A')]
-}
 
-// The kind whose symbol is these two letters.
-pub fn kind_of_letters(capital: u8, small: u8) -> u8
-    ensures { result ≡ kind_of_symbol (capital ∷ small ∷ []) }
-{
-    // 0 stands in the array where there is no second letter.
-    if small == 0 {
-        return NO_KIND;
+    // The kind whose symbol is this letter alone.
+    pub fn of_capital(letter: u8) -> Option<Kind>
+        ensures { kind_in result ≡ kind_of_symbol (letter ∷ []) }
+    {
+        if letter < b'A' || b'Z' < letter {
+            return None;
+        }
+        let kind = BY_CAPITAL[(letter - b'A') as usize];
+        Kind::at(kind)
     }
-    let mut k: usize = 0;
-    while k < COUNT {
-        if CAPITALS[k] == capital {
-            if SMALLS[k] == small {
-                return k as u8;
+
+    // The kind whose symbol is these two letters.
+    pub fn of_letters(capital: u8, small: u8) -> Option<Kind>
+        ensures { kind_in result ≡ kind_of_symbol (capital ∷ small ∷ []) }
+    {
+        // 0 stands in the array where there is no second letter.
+        if small == 0 {
+            return None;
+        }
+        for k in 0..COUNT {
+            if CAPITALS[k] == capital && SMALLS[k] == small {
+                return Some(Kind { number: k as u8 });
             }
         }
-        k += 1;
+        None
     }
-    NO_KIND
+
+    /// Its number among the kinds, by which keys compare it.
+    pub fn number(self) -> u8
+        ensures is { result ≡ self }
+        ensures low { self ≤ 24 }
+    {
+        self.number
+    }
+
+    pub fn atomic_number(self) -> u8
+        ensures { result ≡ number_of self }
+    {
+        NUMBERS[self.number as usize]
+    }
+
+    // The symbol's first letter.
+    pub fn capital(self) -> u8
+        ensures { result ≡ get_or (symbol_of self) 0 0 }
+    {
+        CAPITALS[self.number as usize]
+    }
+
+    // The symbol's second letter, where it has two.
+    pub fn small(self) -> Option<u8>
+        ensures { result ≡ letter_in (get_or (symbol_of self) 1 0) }
+    {
+        let letter = SMALLS[self.number as usize];
+        if letter == 0 { None } else { Some(letter) }
+    }
 }

@@ -1,27 +1,18 @@
--- Bytes at the start of a buffer: copied there, or one more at a time as a loop stores them.
+-- Bytes at the start of a buffer, one more at a time as a loop stores them.
 use mathlib.Core.List.{List, [], ◌++◌}
 use mathlib.Core.Path.{◌≡◌, refl, sym, ap, ◌∙◌}
-use Prim.Native.Nat.{ℕ, suc, ◌+◌, ◌<◌, ◌≤◌}
+use Prim.Native.Nat.{ℕ, suc, ◌+◌, ◌<◌}
 use native.Mathlib.Numerals.{add-one}
-use native.Mathlib.Omega.{arith}
-use lib.ListN.{length, get_or, set, take, drop, length-append, length-drop}
-use lib.Seq.{drop-cons, set_at, append_snoc, take-length}
+use lib.ListN.{length, get_or, set, drop}
+use lib.Seq.{drop-cons, set_at, append_snoc}
 use Rattle.lists.specs.Upto.{each}
 use Rattle.lists.proofs.Upto.{length-each}
 use Rattle.lists.proofs.Steps.{each-zero, each_next}
 use Rattle.lines.specs.Written.{fronted, Prints}
 
-pub fronted-long : (xs o : List ℕ) → length xs ≤ length o → length (fronted xs o) ≡ length o
-unfolding fronted
-fronted-long xs o h = length-append xs (drop (length xs) o) ∙ omega (arith, length-drop (length xs) o)
-
 pub prints_none : (o : List ℕ) → Prints [] o o 0
 unfolding fronted
 prints_none o = record { long = refl; is = refl }
-
-pub copied : (src dst after : List ℕ) (r : ℕ) → r ≡ length src → after ≡ take (length src) src ++ drop (length src) dst → Prints src dst after r
-unfolding fronted
-copied src dst after r l e = record { long = l; is = e ∙ ap (λ (s : List ℕ). s ++ drop (length src) dst) (take-length src) }
 
 module _ (f : ℕ → ℕ) (o : List ℕ) where
   fronted-each : (k : ℕ) → fronted (each k f) o ≡ each k f ++ drop k o
@@ -40,6 +31,3 @@ module _ (f : ℕ → ℕ) (o : List ℕ) where
       ∙ ap (λ (l : List ℕ). l ++ drop (suc k) o) (sym (each_next k f))
       ∙ sym (fronted-each (suc k))
       ∙ ap (λ (n : ℕ). fronted (each n f) o) (sym (add-one k))
-
-  pub each_long : (k : ℕ) → k ≤ length o → length (fronted (each k f) o) ≡ length o
-  each_long k h = fronted-long (each k f) o (omega (arith, length-each k f))

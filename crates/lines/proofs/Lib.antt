@@ -1,9 +1,7 @@
 pub mod Fronted
 pub mod HexDigits
 pub mod Parts
-pub mod Passing
 pub mod Putting
 pub mod Spelling
-pub mod Standing
 pub mod Shown
 pub mod Words

@@ -2,17 +2,14 @@
 use mathlib.Core.List.{List, [], ◌∷◌, ◌++◌, append_assoc}
 use mathlib.Core.Path.{◌≡◌, refl, sym, ap, ◌∙◌, subst}
 use Prim.Native.Nat.{ℕ, ◌+◌, ◌-◌, ◌<◌, ◌≤◌}
-use native.Mathlib.Numerals.{add-one}
 use native.Mathlib.Omega.{arith}
-use lib.ListN.{length, set, take, drop, length-append, length-drop}
-use lib.Seq.{length-take-le, set_split, take_at, drop_at, drop-drop}
-use Rattle.lines.specs.Numbers.{decimal_of}
-use Rattle.lines.specs.Written.{fronted, Prints, Puts, or_dash, numbered}
+use lib.ListN.{length, take, drop, length-append, length-drop}
+use lib.Seq.{length-take-le, take_at, drop_at, drop-drop}
+use Rattle.lines.specs.Added.{Begins, Adds}
+use Rattle.lines.specs.Written.{fronted, Prints, Puts, or_dash}
+use Rattle.std.specs.Borrow.{MutBor}
+use Rattle.lines.specs.declared.output.Printed.{Printed}
 use Rattle.lines.proofs.Parts.{tail_is, tail_back}
-use Rattle.lines.proofs.Shown.{digits-most}
-
-pub put_one : (b : List ℕ) (at x : ℕ) → at < length b → Puts (x ∷ []) b at (set b at x) (at + 1)
-put_one b at x h = record { long = refl; is = set_split b at x h ∙ ap (λ (n : ℕ). take at b ++ x ∷ drop n b) (sym (add-one at)) }
 
 -- a part lent from `at` on, into which xs was printed
 pub put-part : (xs b ys : List ℕ) (at n : ℕ) → at ≤ length b → Prints xs (take (length b - at) (drop at b)) ys n
@@ -64,15 +61,33 @@ puts_more xs ys a b c i j k h P Q =
         ∙ ap (drop (k - j)) (ap (drop j) parts ∙ drop_at (take i a ++ xs) (drop j a) j long)
         ∙ drop-drop (k - j) j a ∙ ap (λ (n : ℕ). drop n a) over
 
-pub puts_as : (xs ys a b : List ℕ) (i j : ℕ) → xs ≡ ys → Puts xs a i b j → Puts ys a i b j
-puts_as xs ys a b i j e P = subst (λ (l : List ℕ). Puts l a i b j) e P
+-- pieces added one behind the other are added together
+pub adds_more : (xs ys : List ℕ) (a b c : Printed) → Adds xs a b → Adds ys b c → Adds (xs ++ ys) a c
+adds_more xs ys a b c P Q =
+    let h : c.at ≤ length a.out.now = omega (arith, c.fits, Q.kept, P.kept) in
+    record {
+      puts = puts_more xs ys a.out.now b.out.now c.out.now a.at b.at c.at h P.puts Q.puts;
+      kept = Q.kept ∙ P.kept;
+      same_reference = Q.same_reference ∙ P.same_reference;
+    }
+
+pub adds_as : (xs ys : List ℕ) (a b : Printed) → xs ≡ ys → Adds xs a b → Adds ys a b
+adds_as xs ys a b e P = subst (λ (l : List ℕ). Adds l a b) e P
+
+-- what was added to nothing is put from the start on
+pub put_whole : (xs after : List ℕ) (lent : MutBor (List ℕ)) (a b : Printed) → Begins lent a → Adds xs a b → after ≡ b.out.now → Puts xs lent.now 0 after b.at
+put_whole xs after lent a b B P e =
+    record { long = omega (arith, P.puts.long, B.nothing); is = e ∙ P.puts.is ∙ rw (B.nothing, B.unchanged) }
 
 -- put from the start on, it is printed
-pub printed : (xs a b : List ℕ) (n : ℕ) → Puts xs a 0 b n → Prints xs a b n
+pub whole_printed : (xs a b : List ℕ) (n : ℕ) → Puts xs a 0 b n → Prints xs a b n
 unfolding fronted
-printed xs a b n P =
+whole_printed xs a b n P =
     let l : n ≡ length xs = omega (arith, P.long) in
     record { long = l; is = P.is ∙ ap (λ (k : ℕ). xs ++ drop k a) l }
+
+pub printed : (xs after : List ℕ) (lent : MutBor (List ℕ)) (a b : Printed) → Begins lent a → Adds xs a b → after ≡ b.out.now → Prints xs lent.now after b.at
+printed xs after lent a b B P e = whole_printed xs lent.now after b.at (put_whole xs after lent a b B P e)
 
 pub dash : (l : List ℕ) → length l ≡ 0 → or_dash l ≡ 45 ∷ []
 dash [] h = refl
@@ -81,30 +96,6 @@ dash (b ∷ l) h = absurd (omega arith)
 pub no_dash : (l : List ℕ) → 0 < length l → l ≡ or_dash l
 no_dash [] h = absurd (omega arith)
 no_dash (b ∷ l) h = refl
-
--- a number and its blank
-pub numbered-most : (n : ℕ) → length (numbered n) ≤ 21
-unfolding numbered
-numbered-most n = omega (arith, length-append (decimal_of n) (32 ∷ []), digits-most 20 n)
-
-pub put-blank : (n : ℕ) (a b c : List ℕ) (i j k : ℕ) → k ≤ length a → Puts (decimal_of n) a i b j → Puts (32 ∷ []) b j c k → Puts (numbered n) a i c k
-unfolding numbered
-put-blank n a b c i j k h P Q = puts_more (decimal_of n) (32 ∷ []) a b c i j k h P Q
-
-pub three_most : (x y z : ℕ) → length (numbered x ++ (numbered y ++ numbered z)) ≤ 63
-three_most x y z =
-    omega (
-      arith,
-      length-append (numbered x) (numbered y ++ numbered z),
-      length-append (numbered y) (numbered z),
-      numbered-most x,
-      numbered-most y,
-      numbered-most z,
-    )
-
-pub dash_most : (l : List ℕ) → length (or_dash l) ≤ length l + 1
-dash_most [] = omega arith
-dash_most (b ∷ l) = omega arith
 
 -- what is printed has room
 pub prints_fits : (xs before after : List ℕ) (n : ℕ) → Prints xs before after n → n ≤ length after

@@ -5,10 +5,6 @@ use native.Mathlib.Nat.{mod-eq_of_lt, mod-lt, div-lt_iff_lt-mul, pow-suc}
 use borrow.Author.Tests.{lt-ltb, ltb-true, ltb-false, ne_eqb}
 use Rattle.std.specs.Fmt.{digit_glyph, digits, digits_onto, decimal}
 use Rattle.lines.specs.Numbers.{digits_to, decimal_of}
-use Rattle.lines.specs.Hex.{glyph}
-
-last_digit : (n : ℕ) → glyph (n % 10) ≡ 48 + n % 10
-last_digit n = rw (lt-ltb (n % 10) 10 (mod-lt n (omega arith)))
 
 last : (n : ℕ) → digit_glyph false (n % 10) ≡ 48 + n % 10
 last n = rw (lt-ltb (n % 10) 10 (mod-lt n (omega arith)))

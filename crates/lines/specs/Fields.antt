@@ -1,12 +1,10 @@
 -- The fields of a line, parted by one blank.
-use Rattle.std.specs.Prelude.{Bool, true, false, cond, ◌&&◌, List, [], ◌∷◌, ℕ, suc, eqb, take, drop}
+use Rattle.std.specs.Prelude.{Bool, true, false, ◌&&◌, ◌==◌, List, [], ◌∷◌, ℕ, suc, eqb, take, drop}
+use Rattle.std.specs.List.{position_or_len}
 
 -- where b stands first, or the length where it does not stand
-unfoldable pub index_of : ℕ → List ℕ → ℕ
-index_of b [] = 0
-index_of b (x ∷ l) =
-    let more = suc (index_of b l) in
-    cond (eqb x b) 0 more
+abbrev pub index_of : ℕ → List ℕ → ℕ
+index_of b l = position_or_len (λ x. x == b) l
 
 -- what stands before the first blank, or all where there is none
 abbrev pub field_of : List ℕ → List ℕ

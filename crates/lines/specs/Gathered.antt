@@ -1,6 +1,5 @@
--- A line that is gathered from pieces of the input, and the part of the input that is not handed out yet.
-use Rattle.std.specs.Prelude.{List, ◌++◌, ◌≡◌, ℕ, ◌+◌, ◌-◌, ◌≤◌, min, length, take, drop}
-use Rattle.lines.specs.declared.input.Unread.{Unread}
+-- A line that is gathered from pieces of the input.
+use Rattle.std.specs.Prelude.{List, ◌++◌, ◌≡◌, ℕ, ◌+◌, ◌-◌, min, length, take, drop}
 
 -- of a line of which `held` bytes are there already, so many as there is room for
 abbrev pub held_after : (held more room : ℕ) → ℕ
@@ -10,7 +9,3 @@ held_after held more room = min (held + more) room
 pub record Appends (before : List ℕ) (held : ℕ) (piece after : List ℕ) (next : ℕ) : Type 0 where
   pub long : next ≡ held_after held (length piece) (length before)
   pub is : after ≡ take held before ++ (take (next - held) piece ++ drop next before)
-
-pub record Inside (u : Unread) (buffer : List ℕ) : Type 0 where
-  pub low : u.at ≤ u.end
-  pub high : u.end ≤ length buffer

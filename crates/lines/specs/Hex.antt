@@ -1,16 +1,20 @@
 -- Bytes in hexadecimal digits, two to a byte and the high one first, read and written.
-use Rattle.std.specs.Prelude.{Bool, cond, ◌&&◌, List, ℕ, ◌+◌, ◌-◌, ◌*◌, ◌/◌, ◌%◌, eqb, leb, ltb, length, get_or}
+use Rattle.std.specs.Prelude.{Bool, cond, Option, Some, None, ◌&&◌, List, ℕ, ◌+◌, ◌-◌, ◌*◌, ◌/◌, ◌%◌, eqb, leb, ltb, length, get_or, is_some}
+use Rattle.std.specs.List.{list_all}
 use Rattle.lists.specs.Upto.{each}
-use Rattle.lists.specs.Tests.{every}
 
 -- the value of a digit, small or capital letters, or 16 of any other byte
 unfoldable pub hex_digit_of : ℕ → ℕ
 hex_digit_of b =
     cond (leb 48 b && leb b 57) (b - 48) (cond (leb 97 b && leb b 102) (b - 87) (cond (leb 65 b && leb b 70) (b - 55) 16))
 
+-- the value of a digit, or none of any other byte
+abbrev pub hex_value : ℕ → Option ℕ
+hex_value b = cond (ltb (hex_digit_of b) 16) (Some (hex_digit_of b)) None
+
 -- hexadecimal digits alone, and a whole number of bytes
 abbrev pub is_hex : List ℕ → Bool
-is_hex l = eqb (length l % 2) 0 && every (each (length l) (λ i. ltb (hex_digit_of (get_or l i 0)) 16))
+is_hex l = eqb (length l % 2) 0 && list_all (λ b. is_some (hex_value b)) l
 
 abbrev pub byte_at : List ℕ → ℕ → ℕ
 byte_at l i = 16 * hex_digit_of (get_or l (2 * i) 0) + hex_digit_of (get_or l (2 * i + 1) 0)

@@ -3,3 +3,4 @@ pub mod Numbers
 pub mod Hex
 pub mod Written
 pub mod Gathered
+pub mod Added

@@ -1,19 +1,16 @@
 -- Numbers in decimal digits, read with a bound and written.
-use Rattle.std.specs.Prelude.{Bool, true, false, cond, not, ◌&&◌, List, [], ◌∷◌, ◌++◌, ℕ, zero, suc, ◌+◌, ◌-◌, ◌*◌, ◌/◌, ◌%◌, eqb, leb, ltb, length, get_or}
-use Rattle.lists.specs.Upto.{each}
-use Rattle.lists.specs.Tests.{every}
-use Rattle.lines.specs.declared.number.Number.{Number}
-use Rattle.lines.specs.declared.number.Number.TheVariants.{Value, Nothing}
+use Rattle.std.specs.Prelude.{Bool, true, false, cond, not, Option, Some, None, ◌&&◌, List, [], ◌∷◌, ◌++◌, ℕ, zero, suc, ◌+◌, ◌-◌, ◌*◌, ◌/◌, ◌%◌, eqb, leb, ltb, length, get_or}
+use Rattle.std.specs.List.{list_all}
 
 abbrev pub is_digit : ℕ → Bool
 is_digit b = leb 48 b && leb b 57
 
--- a digit's value, or 10 of any other byte
-abbrev pub digit_of : ℕ → ℕ
-digit_of b = cond (is_digit b) (b - 48) 10
+-- a digit's value, or none of any other byte
+abbrev pub digit_of : ℕ → Option ℕ
+digit_of b = cond (is_digit b) (Some (b - 48)) None
 
 abbrev pub all_digits : List ℕ → Bool
-all_digits l = every (each (length l) (λ i. is_digit (get_or l i 0)))
+all_digits l = list_all is_digit l
 
 -- a 0 with more digits behind it
 abbrev pub leading_zero : List ℕ → Bool
@@ -27,12 +24,12 @@ worth v (b ∷ l) = worth (10 * v + (b - 48)) l
 abbrev pub spelt : List ℕ → Bool
 spelt l = ltb 0 (length l) && (not (leading_zero l) && all_digits l)
 
-abbrev pub value_if : Bool → ℕ → Number
-value_if true v = Value v
-value_if false v = Nothing
+abbrev pub value_if : Bool → ℕ → Option ℕ
+value_if true v = Some v
+value_if false v = None
 
 -- one digit or more, no leading zero but in 0 itself, and a value of at most `most`
-unfoldable pub number_of : List ℕ → (most : ℕ) → Number
+unfoldable pub number_of : List ℕ → (most : ℕ) → Option ℕ
 number_of l most = value_if (spelt l && leb (worth 0 l) most) (worth 0 l)
 
 -- the digits of a number that has at most so many

@@ -1,120 +1,115 @@
 // Lines of an input, read in large pieces.
-ghost use Rattle.std.specs.Prelude.{◌≡◌, ◌≤◌, min, length, IfOk, OnErr};
-ghost use Rattle.lines.specs.Gathered.{Appends, Inside};
+ghost use Rattle.std.specs.Prelude.{◌≡◌, ◌≤◌, length, IfSome, IfOk, OnErr};
+ghost use Rattle.lines.specs.Gathered.{Appends};
 
-use crate::field;
+use crate::{NEWLINE, field};
 use std::io;
 use std::io::Read;
 
-// The part of the buffer that was read and not handed out yet.
-#[derive(Clone, Copy, Drop)]
-pub struct Unread {
-    pub at: usize,
-    pub end: usize,
+// A reader, what was read of it, and which part of that was not handed out yet.
+#[derive(Drop)]
+pub struct Lines<'r, R> {
+    reader: &'r mut R,
+    buffer: &'r mut [u8],
+    at: usize,
+    end: usize,
+    ghost inside: { (at ≤ end) × (end ≤ length buffer.now) },
 }
 
-// A line: how many of its bytes there are, whether it is there or the input had ended, and whether a newline ended it.
+// A line: how many of its bytes there are, and whether a newline ended it. A count and no slice, since a record's newline
+// is put behind it in the same buffer.
 #[derive(Clone, Copy, Drop)]
 pub struct Line {
     pub length: usize,
-    pub there: bool,
     pub ended: bool,
-    pub unread: Unread,
 }
 
-const NEWLINE: u8 = 10;
+// How much of the input is read at once.
+pub const PIECE: usize = 65536;
 
-// A proved loop has to end, and nothing says that the input does.
-const MOST_READS: u64 = 9223372036854775808;
-
-impl Unread {
-    pub fn nothing() -> Unread
-        ensures { result ≡ record { at = 0; end = 0 } }
-    {
-        Unread { at: 0, end: 0 }
-    }
-}
-
-fn least(a: usize, b: usize) -> usize
-    ensures { result ≡ min a b }
-{
-    if a < b {
-        return a;
-    }
-    b
-}
+// The bound of each loop over the input: a proved loop has to end, and nothing says that the input does.
+pub const MOST_TURNS: u64 = 1 << 63;
 
 // A piece of a line behind what is held of it, as far as there is room.
 fn append(line: &mut [u8], held: usize, piece: &[u8]) -> usize
     requires { held ≤ length line.old }
     ensures { Appends line.old held piece.now line.new result }
 {
-    let n = least(piece.len(), line.len() - held);
+    let n = piece.len().min(line.len() - held);
     let next = held + n;
     line[held..next].copy_from_slice(&piece[..n]);
     next
 }
 
-// What is unread, or the next piece of the input where all is handed out: nothing where the input has ended. An error is
-// the reader's own, here and below, and leaves open which bytes the buffers have.
-fn filled<R: Read>(reader: &mut R, buffer: &mut [u8], unread: Unread) -> io::Result<Unread>
-    requires { Inside unread buffer.old }
-    ensures ok { IfOk result (λ u. Inside u buffer.new) }
-    ensures err { OnErr result (length buffer.new ≡ length buffer.old) }
-{
-    if unread.at < unread.end {
-        return Ok(unread);
+impl<'r, R: Read> Lines<'r, R> {
+    pub fn new(reader: &'r mut R, buffer: &'r mut [u8]) -> Lines<'r, R>
+        ensures { (result.at ≡ 0) × (result.end ≡ 0) }
+    {
+        Lines {
+            reader,
+            buffer,
+            at: 0,
+            end: 0,
+        }
     }
-    let end = reader.read(buffer)?;
-    Ok(Unread { at: 0, end })
+
+    // The next piece of the input where all is handed out: nothing where the input has ended.
+    fn fill(&mut self) -> io::Result<()>
+        ensures { length self.new.buffer.now ≡ length self.old.buffer.now }
+    {
+        if self.at == self.end {
+            self.end = self.reader.read(self.buffer)?;
+            self.at = 0;
+        }
+        Ok(())
+    }
+
+    // The next line without its newline, which the last one may lack. Bytes for which there is no room are passed over. An
+    // error is the reader's own, and leaves open which bytes the line has.
+    pub fn next_line(&mut self, line: &mut [u8]) -> io::Result<Option<Line>>
+        ensures ok { IfOk result (λ o. IfSome o (λ l. l.length ≤ length line.new)) }
+        ensures err { OnErr result (length line.new ≡ length line.old) }
+        ensures kept { length self.new.buffer.now ≡ length self.old.buffer.now }
+    {
+        let mut held = 0;
+        for _ in 0..MOST_TURNS {
+            self.fill()?;
+            let piece = &self.buffer[self.at..self.end];
+            if piece.is_empty() {
+                break;
+            }
+            match field::find(piece, NEWLINE) {
+                Some(e) => {
+                    let length = append(line, held, &piece[..e]);
+                    self.at += e + 1;
+                    return Ok(Some(Line {
+                        length,
+                        ended: true,
+                    }));
+                }
+                None => {
+                    held = append(line, held, piece);
+                    self.at = self.end;
+                }
+            }
+        }
+        if held == 0 {
+            return Ok(None);
+        }
+        Ok(Some(Line {
+            length: held,
+            ended: false,
+        }))
+    }
 }
 
-// The next line without its newline, which the last one may lack. Bytes for which there is no room are passed over.
-pub fn next_line<R: Read>(
-    reader: &mut R,
-    buffer: &mut [u8],
-    unread: Unread,
-    line: &mut [u8],
-) -> io::Result<Line>
-    requires { Inside unread buffer.old }
-    ensures ok { IfOk result (λ l. (l.length ≤ length line.new) × Inside l.unread buffer.new) }
-    ensures err { OnErr result ((length buffer.new ≡ length buffer.old) × (length line.new ≡ length line.old)) }
-{
-    let mut left = unread;
-    let mut held: usize = 0;
-    for _ in 0u64..MOST_READS {
-        left = filled(reader, buffer, left)?;
-        let at = left.at;
-        let end = left.end;
-        if at == end {
-            break;
-        }
-        let e = at + field::find(&buffer[at..end], NEWLINE);
-        held = append(line, held, &buffer[at..e]);
-        if e < end {
-            return Ok(Line {
-                length: held,
-                there: true,
-                ended: true,
-                unread: Unread { at: e + 1, end },
-            });
-        }
-        left = Unread { at: end, end };
-    }
-    Ok(Line {
-        length: held,
-        there: 0 < held,
-        ended: false,
-        unread: left,
-    })
-}
-
-// Fills a buffer as far as the input goes; answers how many bytes there are.
+// Fills a buffer as far as the input goes; answers how many bytes there are, and no slice, since `err` says what is left
+// of the buffer. A read gives as many bytes as it likes, so that no range counts the turns.
 pub fn read_full<R: Read>(reader: &mut R, buffer: &mut [u8]) -> io::Result<usize>
     ensures ok { IfOk result (λ n. n ≤ length buffer.new) }
     ensures err { OnErr result (length buffer.new ≡ length buffer.old) }
 {
-    let mut done: usize = 0;
+    let mut done = 0;
     while done < buffer.len() {
         let n = reader.read(&mut buffer[done..])?;
         if n == 0 {

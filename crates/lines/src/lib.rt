@@ -6,3 +6,12 @@ pub mod hex;
 pub mod input;
 pub mod number;
 pub mod output;
+
+pub(crate) const BLANK: u8 = b' ';
+
+pub const NEWLINE: u8 = b'\n';
+
+// The numberings that a program allows a name, and the bytes that it lends for one, which hold any.
+pub const ALLOWANCE: u16 = 4096;
+
+pub const MOST_NAME: usize = 2048;

@@ -5,74 +5,44 @@ ghost use Rattle.lines.specs.Written.{Prints};
 
 use crate::output;
 
-#[derive(Clone, Copy, Drop)]
-pub enum Number {
-    Value(u32),
-    Nothing,
-}
-
-// No digit has this value.
-const NO_DIGIT: u64 = 10;
-
-fn digit(b: u8) -> u64
+fn digit(b: u8) -> Option<u64>
     ensures { result ≡ digit_of b }
 {
-    if b < 48 {
-        return NO_DIGIT;
+    match b {
+        b'0'..=b'9' => Some(u64::from(b - b'0')),
+        _ => None,
     }
-    if 57 < b {
-        return NO_DIGIT;
-    }
-    (b - 48) as u64
 }
 
 fn leading_zero(field: &[u8]) -> bool
-    requires { 1 ≤ length field.now }
     ensures { result ≡ leading_zero field.now }
 {
-    if field[0] == 48 {
-        return 1 < field.len();
-    }
-    false
-}
-
-fn wide(x: u32) -> u64
-    ensures { result ≡ x }
-{
-    x as u64
+    matches!(field, [b'0', _, ..])
 }
 
 // A number of at most `most`, in its one spelling.
-pub fn number_of(field: &[u8], most: u32) -> Number
+pub fn number_of(field: &[u8], most: u32) -> Option<u32>
     ensures { result ≡ number_of field.now most }
 {
-    if field.len() == 0 {
-        return Number::Nothing;
+    if field.is_empty() || leading_zero(field) {
+        return None;
     }
-    if leading_zero(field) {
-        return Number::Nothing;
-    }
-    let bound = wide(most);
-    let mut value: u64 = 0;
-    let mut i: usize = 0;
-    while i < field.len() {
-        let d = digit(field[i]);
-        if d == NO_DIGIT {
-            return Number::Nothing;
-        }
-        if bound < 10 * value + d {
-            return Number::Nothing;
+    let mut value = 0;
+    for b in field {
+        let d = digit(*b)?;
+        if u64::from(most) < 10 * value + d {
+            return None;
         }
         value = 10 * value + d;
-        i += 1;
     }
-    Number::Value(value as u32)
+    Some(value as u32)
 }
 
 // The digits of a number at the start of a buffer; answers how many there are.
 pub(crate) fn put_decimal(n: u64, out: &mut [u8]) -> usize
     requires { 20 ≤ length out.old }
-    ensures { Prints (decimal_of n) out.old out.new result }
+    ensures prints { Prints (decimal_of n) out.old out.new result }
+    ensures within { result ≤ 20 }
 {
     let mut digits = itoa::Buffer::new();
     let text = digits.format(n).as_bytes();

@@ -1,131 +1,137 @@
--- A field by the bytes in its columns: one law for each answer of the code.
+-- A field by its bytes, one at a time.
 use Prim.Native.Nat.{ℕ, zero, suc, ◌+◌, ◌-◌, ◌*◌, ◌≤◌, ◌<◌}
-use mathlib.Core.Path.{◌≡◌, refl, sym, ap}
+use mathlib.Core.Path.{◌≡◌, refl, sym, ap, ap₂, ◌∙◌}
 use mathlib.Core.List.{List, [], ◌∷◌}
-use mathlib.Core.Bool.{Bool, true, false, ◌&&◌}
-use mathlib.Core.Logic.{⊎_elim}
-use native.Mathlib.Nat.{add-zero}
+use mathlib.Core.Bool.{Bool, true, false, cond, ◌&&◌}
 use native.Mathlib.Omega.{arith}
-use lib.ListN.{length, get_or}
+use native.Mathlib.Numerals.{add-one}
+use lib.ListN.{length, get_or, take, drop, drop_of_length-le, length-drop}
+use lib.Seq.{drop-cons, take_all}
 use lib.Dec.{eqb, leb}
-use borrow.Author.Tests.{ne_eqb, eqb-true, leb-true}
-use Rattle.lists.specs.Upto.{each, from}
+use borrow.Author.Tests.{ne_eqb, eq-eqb, leb-true}
+use Rattle.std.specs.List.{list_all}
 use Rattle.lists.specs.Tests.{every}
-use Rattle.lists.proofs.Booleans.{and_both, or_either}
+use Rattle.lists.proofs.Booleans.{and_both}
+use Rattle.lists.proofs.Upto.{get_or-each, length-each}
 use Rattle.sling.specs.Scanned.{is_digit}
-use Rattle.ctfile.specs.Fields.{columns, unled, decimal, number_in, is_sign, unsigned, size_in}
+use Rattle.ctfile.specs.Fields.{are_blank, columns, unled, untrailed, decimal, is_sign, unsigned}
 
--- what stands for an element that is not there does not matter where it is
-pub within : (l : List ℕ) (k d e : ℕ) → k < length l → get_or l k d ≡ get_or l k e
-within [] k d e h = absurd (omega arith)
-within (x ∷ l) zero d e h = refl
-within (x ∷ l) (suc k) d e h = within l k d e (omega arith)
+-- what a slice from a place on has
+pub rest : (l : List ℕ) (i : ℕ) → take (length l - i) (drop i l) ≡ drop i l
+rest l i = take_all (length l - i) (drop i l) (omega (arith, length-drop i l))
 
-digit-some : (b : ℕ) → is_digit b ≡ true → eqb b 32 ≡ false
-digit-some b e = ne_eqb b 32 (λ q. let w = leb-true 48 b (and_both (leb 48 b) _ e).0 in omega arith)
+pub all_blank : (l : List ℕ) → list_all (λ b. eqb b 32) l ≡ are_blank l
+unfolding every
+all_blank [] = refl
+all_blank (b ∷ bs) = ap (λ (r : Bool). eqb b 32 && r) (all_blank bs)
+
+-- ---- The blanks around what a field holds
+
+module _ (l : List ℕ) (i : ℕ) (h : i < length l) where
+  pub unled_on : get_or l i 0 ≡ 32 → unled (drop i l) ≡ unled (drop (i + 1) l)
+  unfolding unled
+  unled_on e = rw (drop-cons l i 0 h, add-one) (simp (eq-eqb _ _ e))
+
+  pub unled_here : (get_or l i 0 ≡ 32 → ⊥) → unled (drop i l) ≡ drop i l
+  unfolding unled
+  unled_here n = rw (drop-cons l i 0 h) (simp (ne_eqb _ _ n))
+
+pub unled_end : (l : List ℕ) (i : ℕ) → length l ≤ i → unled (drop i l) ≡ []
+unfolding unled
+unled_end l i h = rw (drop_of_length-le l h)
+
+pub untrailed_at : (l : List ℕ) (i : ℕ) → ((j : ℕ) → j < i → are_blank (drop j l) ≡ false) → are_blank (drop i l) ≡ true → untrailed l ≡ take i l
+unfolding untrailed every
+untrailed_at [] zero f e = refl
+untrailed_at [] (suc i) f e = refl
+untrailed_at (b ∷ bs) zero f e = simp e
+untrailed_at (b ∷ bs) (suc i) f e = simp (f 0 (omega arith)) (ap (λ (r : List ℕ). b ∷ r) (untrailed_at bs i (λ j h. f (suc j) (omega arith)) e))
+
+pub untrailed-whole : (l : List ℕ) → ((j : ℕ) → j < length l → are_blank (drop j l) ≡ false) → untrailed l ≡ l
+unfolding untrailed every
+untrailed-whole [] f = refl
+untrailed-whole (b ∷ bs) f = simp (f 0 (omega arith)) (ap (λ (r : List ℕ). b ∷ r) (untrailed-whole bs (λ j h. f (suc j) (omega arith))))
+
+-- ---- Digits, one by one
 
 pub digit_low : (b : ℕ) → is_digit b ≡ true → (48 ≤ b) × (b ≤ 57)
 digit_low b e = let w = and_both (leb 48 b) _ e in (leb-true 48 b w.0, leb-true b 57 w.1)
 
-sign_some : (b : ℕ) → is_sign b ≡ true → eqb b 32 ≡ false
-sign_some b e = ne_eqb b 32 (λ q. ⊎_elim (λ w. let z = eqb-true b 43 w in omega arith) (λ w. let z = eqb-true b 45 w in omega arith) (or_either (eqb b 43) (eqb b 45) e))
-
-module _ (v c : ℕ) where
-  pub last_digit : is_digit c ≡ true → 10 * v + (c - 48) ≡ decimal v (c ∷ [])
+module _ (v : ℕ) (l : List ℕ) (i : ℕ) (h : i < length l) where
+  pub decimal_digit : is_digit (get_or l i 0) ≡ true → decimal v (drop i l) ≡ decimal (10 * v + (get_or l i 0 - 48)) (drop (i + 1) l)
   unfolding decimal
-  last_digit e = simp e
+  decimal_digit e = rw (drop-cons l i 0 h, add-one) (simp e)
 
-  pub last_blank : c ≡ 32 → v ≡ decimal v (c ∷ [])
-  unfolding decimal every
-  last_blank e = rw e
-
-  pub last_none : is_digit c ≡ false → (c ≡ 32 → ⊥) → 1000 ≡ decimal v (c ∷ [])
-  unfolding decimal every
-  last_none e n = simp (e, ne_eqb c 32 n)
-
-module _ (v b c : ℕ) where
-  pub two-digit : is_digit b ≡ true → decimal (10 * v + (b - 48)) (c ∷ []) ≡ decimal v (b ∷ c ∷ [])
+  pub decimal_blank : is_digit (get_or l i 0) ≡ false → are_blank (drop i l) ≡ true → decimal v (drop i l) ≡ v
   unfolding decimal
-  two-digit e = simp e
+  decimal_blank e f = rw (drop-cons l i 0 h) (simp (e, rw (drop-cons l i 0 h) at f))
 
-  pub two_none : is_digit b ≡ false → (b ≡ 32 → ⊥) → 1000 ≡ decimal v (b ∷ c ∷ [])
-  unfolding decimal every
-  two_none e n = simp (e, ne_eqb b 32 n)
+  pub decimal_none : is_digit (get_or l i 0) ≡ false → are_blank (drop i l) ≡ false → decimal v (drop i l) ≡ 1000
+  unfolding decimal
+  decimal_none e f = rw (drop-cons l i 0 h) (simp (e, rw (drop-cons l i 0 h) at f))
 
-  pub two-inner : b ≡ 32 → (c ≡ 32 → ⊥) → 1000 ≡ decimal v (b ∷ c ∷ [])
-  unfolding decimal every
-  two-inner e n = rw (e, ne_eqb c 32 n)
+pub decimal-end : (v : ℕ) (l : List ℕ) (i : ℕ) → length l ≤ i → decimal v (drop i l) ≡ v
+unfolding decimal
+decimal-end v l i h = rw (drop_of_length-le l h)
 
-  pub two-blank : b ≡ 32 → c ≡ 32 → v ≡ decimal v (b ∷ c ∷ [])
-  unfolding decimal every
-  two-blank e f = rw (e, f)
+-- ---- A sign before a digit
 
-unled-some : (b : ℕ) (bs : List ℕ) → eqb b 32 ≡ false → unled (b ∷ bs) ≡ b ∷ bs
+pub unsigned_drops : (l : List ℕ) → 2 ≤ length l → (is_sign (get_or l 0 0) && is_digit (get_or l 1 0)) ≡ true → unsigned l ≡ drop 1 l
+unfolding unsigned
+unsigned_drops [] h e = absurd (omega arith)
+unsigned_drops (b ∷ []) h e = absurd (omega arith)
+unsigned_drops (b ∷ c ∷ l) h e = simp e
+
+pub unsigned_short : (l : List ℕ) → length l ≤ 1 → unsigned l ≡ l
+unfolding unsigned
+unsigned_short [] h = refl
+unsigned_short (b ∷ []) h = refl
+unsigned_short (b ∷ c ∷ l) h = absurd (omega arith)
+
+pub unsigned_keeps : (l : List ℕ) → (is_sign (get_or l 0 0) && is_digit (get_or l 1 0)) ≡ false → unsigned l ≡ l
+unfolding unsigned
+unsigned_keeps [] e = refl
+unsigned_keeps (b ∷ []) e = refl
+unsigned_keeps (b ∷ c ∷ l) e = simp e
+
+-- ---- How long a field is without what is cut off
+
+pub unled_long : (l : List ℕ) → length (unled l) ≤ length l
 unfolding unled
-unled-some b bs e = simp e
-
-lone : (c : ℕ) → decimal 0 (c ∷ []) ≡ decimal 0 (unled (c ∷ []))
-unfolding unled decimal every
-lone c = pick (eqb c 32) refl
+unled_long [] = omega arith
+unled_long (b ∷ bs) = pick (eqb b 32) (unled_long bs)
   where
-    pick : (x : Bool) → eqb c 32 ≡ x → decimal 0 (c ∷ []) ≡ decimal 0 (unled (c ∷ []))
-    pick true q = rw (eqb-true c 32 q)
-    pick false q = ap (decimal 0) (sym (unled-some c [] q))
+    pick : (c : Bool) → length (unled bs) ≤ length bs → length (cond c (unled bs) (b ∷ bs)) ≤ suc (length bs)
+    pick true h = omega arith
+    pick false h = omega arith
 
-module _ (a b c : ℕ) where
-  pub number-digit : is_digit a ≡ true → decimal (10 * 0 + (a - 48)) (b ∷ c ∷ []) ≡ number_in (a ∷ b ∷ c ∷ [])
-  unfolding number_in unled decimal
-  number-digit e = simp (digit-some a e) (simp e)
+pub unsigned_long : (l : List ℕ) → length (unsigned l) ≤ length l
+unfolding unsigned
+unsigned_long [] = omega arith
+unsigned_long (b ∷ []) = omega arith
+unsigned_long (b ∷ c ∷ l) = pick (is_sign b && is_digit c)
+  where
+    pick : (x : Bool) → length (cond x (c ∷ l) (b ∷ c ∷ l)) ≤ suc (suc (length l))
+    pick true = omega arith
+    pick false = omega arith
 
-  pub number-none : is_digit a ≡ false → (a ≡ 32 → ⊥) → 1000 ≡ number_in (a ∷ b ∷ c ∷ [])
-  unfolding number_in unled decimal every
-  number-none e n = simp (ne_eqb a 32 n) (simp e)
+-- ---- Columns
 
-  pub number-two : a ≡ 32 → (b ≡ 32 → ⊥) → decimal 0 (b ∷ c ∷ []) ≡ number_in (a ∷ b ∷ c ∷ [])
-  unfolding number_in unled
-  number-two e n = rw (e, ne_eqb b 32 n)
+list-eq : (xs ys : List ℕ) → length xs ≡ length ys → ((i : ℕ) → i < length xs → get_or xs i 0 ≡ get_or ys i 0) → xs ≡ ys
+list-eq [] [] e f = refl
+list-eq [] (y ∷ ys) e f = absurd (omega arith)
+list-eq (x ∷ xs) [] e f = absurd (omega arith)
+list-eq (x ∷ xs) (y ∷ ys) e f = ap₂ ◌∷◌ (f 0 (omega arith)) (list-eq xs ys (omega arith) (λ i h. f (suc i) (omega arith)))
 
-  pub number-last : a ≡ 32 → b ≡ 32 → decimal 0 (c ∷ []) ≡ number_in (a ∷ b ∷ c ∷ [])
-  unfolding number_in unled
-  number-last e f = rw (e, f) (lone c)
+module _ (k n : ℕ) (l : List ℕ) where
+  pub columns-long : length (columns k n l) ≡ n
+  unfolding columns
+  columns-long = length-each n (λ i. get_or l (k + i) 32)
 
-  pub size-signed : (is_sign a && is_digit b) ≡ true → decimal 0 (b ∷ c ∷ []) ≡ size_in (a ∷ b ∷ c ∷ [])
-  unfolding size_in number_in unsigned unled
-  size-signed e =
-      let w = and_both (is_sign a) (is_digit b) e in
-      simp (sign_some a w.0) (simp e (simp (digit-some b w.1)))
+  pub columns-at : (i : ℕ) → i < n → get_or (columns k n l) i 0 ≡ get_or l (k + i) 32
+  unfolding columns
+  columns-at i h = get_or-each n (λ i. get_or l (k + i) 32) i 0 h
 
-  pub size-plain : (a ≡ 32 → ⊥) → (is_sign a && is_digit b) ≡ false → number_in (a ∷ b ∷ c ∷ []) ≡ size_in (a ∷ b ∷ c ∷ [])
-  unfolding size_in unsigned unled
-  size-plain n e = simp (ne_eqb a 32 n) (simp e)
-
-  pub size-last : a ≡ 32 → (is_sign b && is_digit c) ≡ true → decimal 0 (c ∷ []) ≡ size_in (a ∷ b ∷ c ∷ [])
-  unfolding size_in number_in unsigned unled
-  size-last q e =
-      let w = and_both (is_sign b) (is_digit c) e in
-      rw q (simp (sign_some b w.0) (simp e (simp (digit-some c w.1))))
-
-  pub size-behind : a ≡ 32 → (is_sign b && is_digit c) ≡ false → number_in (a ∷ b ∷ c ∷ []) ≡ size_in (a ∷ b ∷ c ∷ [])
-  unfolding size_in number_in unsigned unled
-  size-behind q e = rw q (pick (eqb b 32) refl)
-    where
-      last : (x : Bool) → eqb c 32 ≡ x → decimal 0 (unled (c ∷ [])) ≡ decimal 0 (unled (unsigned (unled (c ∷ []))))
-      last true z = rw (eqb-true c 32 z)
-      last false z = rw (z, z)
-
-      pick : (x : Bool) → eqb b 32 ≡ x → decimal 0 (unled (b ∷ c ∷ [])) ≡ decimal 0 (unled (unsigned (unled (b ∷ c ∷ []))))
-      pick true z = rw (eqb-true b 32 z) (last (eqb c 32) refl)
-      pick false z = simp z (simp (e, z))
-
-pub size-two : (b c : ℕ) → size_in (32 ∷ b ∷ c ∷ []) ≡ size_in (b ∷ c ∷ [])
-unfolding size_in unled
-size-two b c = refl
-
-module _ (k : ℕ) (l : List ℕ) where
-  pub columns-two : columns k 2 l ≡ get_or l k 32 ∷ get_or l (k + 1) 32 ∷ []
-  unfolding columns each from
-  columns-two = rw (add-zero k)
-
-  pub columns-three : columns k 3 l ≡ get_or l k 32 ∷ get_or l (k + 1) 32 ∷ get_or l (k + 2) 32 ∷ []
-  unfolding columns each from
-  columns-three = rw (add-zero k)
+pub columns-are : (k n : ℕ) (l : List ℕ) (xs : List ℕ) → length xs ≡ n → ((i : ℕ) → i < n → get_or xs i 0 ≡ get_or l (k + i) 32) → xs ≡ columns k n l
+columns-are k n l xs e f =
+    list-eq xs (columns k n l) (e ∙ sym (columns-long k n l)) (λ i h. f i (omega arith) ∙ sym (columns-at k n l i (omega arith)))

@@ -1,5 +1,5 @@
-pub mod LineLaws
 pub mod FieldLaws
+pub mod LineLaws
 pub mod TextLaws
 pub mod FormLaws
 pub mod PropertyLaws

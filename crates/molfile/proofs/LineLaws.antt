@@ -12,7 +12,7 @@ use borrow.Author.Tests.{eq-eqb, ne_eqb, eqb-true}
 use Rattle.lists.proofs.Booleans.{and_both}
 use Rattle.ctfile.specs.Lines as rules
 use Rattle.ctfile.specs.Lines.{starts_with, line_bytes, lines_from}
-use Rattle.molfile.specs.Cutting.{line_feed, lines_at, line_of, IsLine}
+use Rattle.molfile.specs.Cutting.{line_feed, lines_at, line_of}
 
 pub feed_here : (s : List ℕ) (i : ℕ) → i < length s → get_or s i 0 ≡ 10 → line_feed (drop i s) ≡ 0
 feed_here s i h e = rw (drop-cons s i 0 h, eq-eqb _ _ e)
@@ -124,52 +124,34 @@ module _ (s : List ℕ) (at : ℕ) (h : at < length s) where
   first : lines_at s at ≡ line_of s at ∷ lines_from (drop at s) false at
   first = begun (drop at s) at (omega (arith, long))
 
-  pub line_last : length s ≤ at + line_feed (drop at s) → IsLine s at (record { end = length s; next = length s })
+  pub line_last : length s ≤ at + line_feed (drop at s) → line_bytes (drop at s) ≡ drop at s
   line_last k =
       let n : length (drop at s) ≤ line_feed (drop at s) = omega (arith, long) in
-      record {
-        behind = omega arith;
-        cut = omega arith;
-        ahead = omega arith;
-        within = omega arith;
-        bytes = take_all (length s - at) (drop at s) (omega (arith, long)) ∙ sym
-            (bare-bytes (drop at s) (λ m x y z. omega arith) ∙ take_all (line_feed (drop at s)) (drop at s) n);
-        lines = first ∙ ap (λ (r : List rules.Line). line_of s at ∷ r) (no_feed (drop at s) at n ∙ sym (no_lines s (length s) (omega arith)));
-      }
+      bare-bytes (drop at s) (λ m x y z. omega arith) ∙ take_all (line_feed (drop at s)) (drop at s) n
+
+  pub lines_last : length s ≤ at + line_feed (drop at s) → lines_at s at ≡ line_of s at ∷ lines_at s (length s)
+  lines_last k =
+      first ∙ ap (λ (r : List rules.Line). line_of s at ∷ r) (no_feed (drop at s) at (omega (arith, long)) ∙ sym (no_lines s (length s) (omega arith)))
 
   module _ (f : ℕ) (e : f ≡ at + line_feed (drop at s)) (k : f < length s) where
-    follows : lines_at s at ≡ line_of s at ∷ lines_at s (f + 1)
-    follows =
+    pub lines_on : lines_at s at ≡ line_of s at ∷ lines_at s (f + 1)
+    lines_on =
         let n : line_feed (drop at s) < length (drop at s) = omega (arith, long) in
         let g : at + suc (line_feed (drop at s)) ≡ f + 1 = omega arith in
         first ∙ ap (λ (r : List rules.Line). line_of s at ∷ r) (after-feed (drop at s) at n ∙ rw (drop-drop (suc (line_feed (drop at s))) at s, g))
 
-    pub line_bare : (at < f → get_or s (f - 1) 0 ≡ 13 → ⊥) → IsLine s at (record { end = f; next = f + 1 })
+    pub line_bare : (at < f → get_or s (f - 1) 0 ≡ 13 → ⊥) → take (f - at) (drop at s) ≡ line_bytes (drop at s)
     line_bare n =
         let x : f - at ≡ line_feed (drop at s) = omega arith in
-        record {
-          behind = omega arith;
-          cut = omega arith;
-          ahead = omega arith;
-          within = omega arith;
-          bytes = ap (λ (j : ℕ). take j (drop at s)) x ∙ sym (bare-bytes (drop at s) bare);
-          lines = follows;
-        }
+        ap (λ (j : ℕ). take j (drop at s)) x ∙ sym (bare-bytes (drop at s) bare)
       where
         bare : (m : ℕ) → line_feed (drop at s) ≡ suc m → suc m < length (drop at s) → get_or (drop at s) m 0 ≡ 13 → ⊥
         bare m x y z =
             let w : at + m ≡ f - 1 = omega arith in
             n (omega arith) (ap (λ (j : ℕ). get_or s j 0) (sym w) ∙ sym (get_or-drop at s m 0) ∙ z)
 
-    pub line_returned : at < f → get_or s (f - 1) 0 ≡ 13 → IsLine s at (record { end = f - 1; next = f + 1 })
+    pub line_returned : at < f → get_or s (f - 1) 0 ≡ 13 → take (f - 1 - at) (drop at s) ≡ line_bytes (drop at s)
     line_returned l c =
         let x : line_feed (drop at s) ≡ suc (f - 1 - at) = omega arith in
         let w : at + (f - 1 - at) ≡ f - 1 = omega arith in
-        record {
-          behind = omega arith;
-          cut = omega arith;
-          ahead = omega arith;
-          within = omega arith;
-          bytes = sym (returned-bytes (drop at s) (f - 1 - at) x (omega (arith, long)) (get_or-drop at s (f - 1 - at) 0 ∙ ap (λ (j : ℕ). get_or s j 0) w ∙ c));
-          lines = follows;
-        }
+        sym (returned-bytes (drop at s) (f - 1 - at) x (omega (arith, long)) (get_or-drop at s (f - 1 - at) 0 ∙ ap (λ (j : ℕ). get_or s j 0) w ∙ c))

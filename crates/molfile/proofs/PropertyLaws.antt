@@ -2,63 +2,39 @@
 use Prim.Native.Nat.{ℕ, ◌+◌, ◌*◌, ◌≤◌, ◌<◌}
 use mathlib.Core.Path.{◌≡◌, refl, sym, ap, ◌∙◌}
 use mathlib.Core.List.{List}
-use mathlib.Core.Bool.{Bool, true, false}
+use mathlib.Core.Bool.{Bool, true, false, ◌&&◌}
 use native.Mathlib.Numerals.{add-one}
 use native.Mathlib.Omega.{arith}
-use lib.ListN.{length, get_or, take, drop, drop_of_length-le}
-use lib.Seq.{drop-cons}
-use lib.Dec.{eqb}
-use borrow.Author.Tests.{lt-ltb, le-ltb, le-leb, lt-leb, eq-eqb, ne_eqb}
+use lib.ListN.{length, get_or, take, drop}
+use lib.Dec.{eqb, ltb, leb}
+use borrow.Author.Tests.{lt-ltb, le-ltb, le-leb, lt-leb}
 use Rattle.lists.specs.Upto.{each}
 use Rattle.lists.specs.Tests.{every}
 use Rattle.lists.proofs.Tested.{every-true_below}
 use Rattle.lists.proofs.Steps.{every-next}
-use Rattle.ctfile.specs.Fields.{are_blank, columns, is_text, size_in}
+use Rattle.ctfile.specs.Fields.{is_blank, are_blank, columns, is_text, size_in}
 use Rattle.ctfile.specs.Forms.{number_at, is_entry, lists_entries, is_property_line, is_end_line}
-
--- ---- Blanks to the end of a line
-
-module _ (l : List ℕ) (i : ℕ) where
-  pub blank-out : length l ≤ i → are_blank (drop i l) ≡ true
-  unfolding every
-  blank-out h = rw (drop_of_length-le l h)
-
-  pub blank-not : i < length l → (get_or l i 0 ≡ 32 → ⊥) → are_blank (drop i l) ≡ false
-  unfolding every
-  blank-not h n = rw (drop-cons l i 0 h, ne_eqb _ _ n)
-
-  pub blank-on : i < length l → get_or l i 0 ≡ 32 → are_blank (drop i l) ≡ are_blank (drop (i + 1) l)
-  unfolding every
-  blank-on h e = rw (drop-cons l i 0 h, eq-eqb _ _ e, add-one i)
 
 -- ---- Entries
 
 module _ (atoms : ℕ) (l : List ℕ) (e : ℕ) where
-  pub entry-before : (get_or l (9 + 8 * e) 32 ≡ 32 → ⊥) → false ≡ is_entry atoms l e
+  pub entry-before : is_blank (get_or l (9 + 8 * e) 32) ≡ false → false ≡ is_entry atoms l e
   unfolding is_entry
-  entry-before n = simp (ne_eqb _ _ n)
+  entry-before n = simp n
 
-  module _ (p : get_or l (9 + 8 * e) 32 ≡ 32) where
-    pub entry-between : (get_or l (9 + 8 * e + 4) 32 ≡ 32 → ⊥) → false ≡ is_entry atoms l e
+  module _ (p : is_blank (get_or l (9 + 8 * e) 32) ≡ true) where
+    pub entry-between : is_blank (get_or l (9 + 8 * e + 4) 32) ≡ false → false ≡ is_entry atoms l e
     unfolding is_entry
-    entry-between n = simp (eq-eqb _ _ p, ne_eqb _ _ n)
+    entry-between n = simp (p, n)
 
-    module _ (q : get_or l (9 + 8 * e + 4) 32 ≡ 32) where
-      pub entry-none : number_at (9 + 8 * e + 1) l ≡ 0 → false ≡ is_entry atoms l e
+    module _ (q : is_blank (get_or l (9 + 8 * e + 4) 32) ≡ true) where
+      pub entry-atom : (ltb 0 (number_at (9 + 8 * e + 1) l) && leb (number_at (9 + 8 * e + 1) l) atoms) ≡ false → false ≡ is_entry atoms l e
       unfolding is_entry
-      entry-none z = let k : number_at (9 + 8 * e + 1) l ≤ 0 = omega arith in simp (eq-eqb _ _ p, eq-eqb _ _ q, le-ltb _ _ k)
+      entry-atom n = simp (p, q, n)
 
-      module _ (n : number_at (9 + 8 * e + 1) l ≡ 0 → ⊥) where
-        some : 0 < number_at (9 + 8 * e + 1) l
-        some = omega arith
-
-        pub entry-over : atoms < number_at (9 + 8 * e + 1) l → false ≡ is_entry atoms l e
-        unfolding is_entry
-        entry-over h = simp (eq-eqb _ _ p, eq-eqb _ _ q, lt-ltb _ _ some, lt-leb _ _ h)
-
-        pub entry_value : number_at (9 + 8 * e + 1) l ≤ atoms → eqb (size_in (columns (9 + 8 * e + 5) 3 l)) 0 ≡ is_entry atoms l e
-        unfolding is_entry
-        entry_value h = simp (eq-eqb _ _ p, eq-eqb _ _ q, lt-ltb _ _ some, le-leb _ _ h)
+      pub entry_value : (ltb 0 (number_at (9 + 8 * e + 1) l) && leb (number_at (9 + 8 * e + 1) l) atoms) ≡ true → eqb (size_in (columns (9 + 8 * e + 5) 3 l)) 0 ≡ is_entry atoms l e
+      unfolding is_entry
+      entry_value n = simp (p, q, n)
 
 -- ---- Tests of all numbers below a bound, one by one
 
@@ -91,6 +67,10 @@ module _ (l : List ℕ) where
 pub property_other : (atoms : ℕ) (l : List ℕ) → lists_entries l ≡ false → false ≡ is_property_line atoms l
 unfolding is_property_line
 property_other atoms l z = simp z
+
+pub property-no_number : (atoms : ℕ) (l : List ℕ) → lists_entries l ≡ true → number_at 6 l ≡ 1000 → false ≡ is_property_line atoms l
+unfolding is_property_line
+property-no_number atoms l z e = let k : 8 < number_at 6 l = omega arith in let h : 0 < number_at 6 l = omega arith in simp (z, lt-ltb _ _ h, lt-leb _ _ k)
 
 module _ (atoms : ℕ) (l : List ℕ) (n : ℕ) (e : n ≡ number_at 6 l) where
   module _ (z : lists_entries l ≡ true) where

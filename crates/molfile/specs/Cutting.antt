@@ -1,5 +1,5 @@
 -- The lines of a file, cut one by one.
-use Rattle.std.specs.Prelude.{ℕ, ◌-◌, ◌≤◌, ◌<◌, ◌≡◌, List, ◌∷◌, true, length, take, drop, eqb}
+use Rattle.std.specs.Prelude.{ℕ, ◌≤◌, ◌<◌, ◌≡◌, List, ◌∷◌, true, length, drop, eqb}
 use Rattle.lists.specs.Tests.{find}
 use Rattle.ctfile.specs.Lines as rules
 use Rattle.ctfile.specs.Lines.{line_bytes, lines_from}
@@ -18,9 +18,7 @@ line_of s at = record { offset = at; bytes = line_bytes (drop at s) }
 
 -- a line's bytes without its end, and the offset at which the next begins
 pub record IsLine (s : List ℕ) (at : ℕ) (r : Line) : Type 0 where
-  pub behind : at ≤ r.end
-  pub cut : r.end ≤ r.next
   pub ahead : at < r.next
   pub within : r.next ≤ length s
-  pub bytes : take (r.end - at) (drop at s) ≡ line_bytes (drop at s)
+  pub bytes : r.bytes.now ≡ line_bytes (drop at s)
   pub lines : lines_at s at ≡ line_of s at ∷ lines_at s r.next

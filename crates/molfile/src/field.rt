@@ -1,156 +1,110 @@
 // The columns of a line, and what a field of them holds.
-ghost use Rattle.std.specs.Prelude.{◌≡◌, [], ◌∷◌, true, ◌&&◌, ◌+◌, ◌-◌, ◌*◌, ◌≤◌, ◌<◌, get_or};
+ghost use Rattle.std.specs.Prelude.{◌≡◌, ◌&&◌, ◌+◌, ◌<◌, ◌≤◌, get_or, length};
 ghost use Rattle.sling.specs.Scanned.{is_digit};
-ghost use Rattle.ctfile.specs.Fields.{are_blank, columns, decimal, number_in, is_sign, size_in};
+ghost use Rattle.ctfile.specs.Fields.{are_blank, columns, decimal, unled, untrailed, is_sign, unsigned, size_in};
 ghost use Rattle.ctfile.specs.Forms.{number_at};
 ghost use Rattle.molfile.specs.Numbers.{IsNumber};
 
-pub const BLANK: u8 = 32;
-
-// What stands for none: three columns hold no more than 999.
-pub const NO_NUMBER: u16 = 1000;
-
-pub fn wide(x: u16) -> usize
-    ensures { result ≡ x }
-{
-    x as usize
-}
+pub const BLANK: u8 = b' ';
 
 // The byte in the column behind the first k. What is cut off is blank.
 pub fn column(line: &[u8], k: usize) -> u8
     ensures { result ≡ get_or line.now k 32 }
 {
-    if k < line.len() {
-        return line[k];
-    }
-    BLANK
+    if k < line.len() { line[k] } else { BLANK }
 }
 
-pub fn are_blank(a: u8, b: u8, c: u8) -> bool
-    ensures { result ≡ are_blank (a ∷ b ∷ c ∷ []) }
+// So many columns behind the first k.
+pub fn columns<const N: usize>(line: &[u8], k: usize) -> [u8; N]
+    requires { k + N < 2000 }
+    ensures { result ≡ columns k N line.now }
 {
-    if a != BLANK {
-        return false;
+    let mut field = [BLANK; N];
+    for i in 0..N {
+        field[i] = column(line, k + i);
     }
-    if b != BLANK {
-        return false;
-    }
-    c == BLANK
+    field
 }
 
-fn is_digit(b: u8) -> bool
-    ensures { result ≡ is_digit b }
+pub fn are_blank(field: &[u8]) -> bool
+    ensures { result ≡ are_blank field.now }
 {
-    if b < 48 {
-        return false;
-    }
-    b <= 57
+    field.iter().all(|b| *b == BLANK)
 }
 
-// A digit behind digits that come to v.
-fn digit_more(v: u16, b: u8) -> u16
-    requires { (v ≤ 99) × (is_digit b ≡ true) }
-    ensures { result ≡ 10 * v + (b - 48) }
+// A field without the blanks before what it holds.
+pub fn unled(field: &[u8]) -> &[u8]
+    ensures { result.now ≡ unled field.now }
 {
-    10 * v + (b - 48) as u16
+    for (i, b) in field.iter().enumerate() {
+        if *b != BLANK {
+            return &field[i..];
+        }
+    }
+    &[]
 }
 
-// The last column of a number, behind digits that come to v.
-fn last_of(v: u16, c: u8) -> u16
-    requires { v ≤ 99 }
-    ensures { IsNumber (decimal v (c ∷ [])) result }
+// A field without the blanks behind what it holds.
+pub fn untrailed(field: &[u8]) -> &[u8]
+    ensures { result.now ≡ untrailed field.now }
 {
-    if is_digit(c) {
-        return digit_more(v, c);
+    for i in 0..field.len() {
+        if are_blank(&field[i..]) {
+            return &field[..i];
+        }
     }
-    if c == BLANK {
-        return v;
-    }
-    NO_NUMBER
-}
-
-// The last two columns of a number, behind a digit v.
-fn last_two_of(v: u16, b: u8, c: u8) -> u16
-    requires { v ≤ 9 }
-    ensures { IsNumber (decimal v (b ∷ c ∷ [])) result }
-{
-    if is_digit(b) {
-        return last_of(digit_more(v, b), c);
-    }
-    if b != BLANK {
-        return NO_NUMBER;
-    }
-    if c != BLANK {
-        return NO_NUMBER;
-    }
-    v
-}
-
-// A number in three columns.
-fn number_of(a: u8, b: u8, c: u8) -> u16
-    ensures { IsNumber (number_in (a ∷ b ∷ c ∷ [])) result }
-{
-    if is_digit(a) {
-        return last_two_of(digit_more(0, a), b, c);
-    }
-    if a != BLANK {
-        return NO_NUMBER;
-    }
-    if b != BLANK {
-        return last_two_of(0, b, c);
-    }
-    last_of(0, c)
+    field
 }
 
 // Whether a sign stands before a digit.
-fn is_signed(a: u8, b: u8) -> bool
-    ensures { result ≡ (is_sign a && is_digit b) }
+fn is_signed(sign: u8, digit: u8) -> bool
+    ensures { result ≡ (is_sign sign && is_digit digit) }
 {
-    if a == 43 {
-        return is_digit(b);
-    }
-    if a == 45 {
-        return is_digit(b);
-    }
-    false
+    (sign == b'+' || sign == b'-') && digit.is_ascii_digit()
 }
 
-// How far a number in three columns, which may have a sign, is from 0.
-fn size_of(a: u8, b: u8, c: u8) -> u16
-    ensures { IsNumber (size_in (a ∷ b ∷ c ∷ [])) result }
+// A field without a sign that stands before a digit.
+fn unsigned(field: &[u8]) -> &[u8]
+    ensures { result.now ≡ unsigned field.now }
 {
-    if is_signed(a, b) {
-        return last_two_of(0, b, c);
+    match field {
+        [sign, digit, ..] if is_signed(*sign, *digit) => &field[1..],
+        _ => field,
     }
-    if a != BLANK {
-        return number_of(a, b, c);
+}
+
+// Digits to the blanks behind them.
+fn decimal(field: &[u8]) -> Option<u16>
+    requires { length field.now ≤ 3 }
+    ensures { IsNumber (decimal 0 field.now) result }
+{
+    let mut number: u16 = 0;
+    for (i, b) in field.iter().enumerate() {
+        if !b.is_ascii_digit() {
+            return if are_blank(&field[i..]) {
+                Some(number)
+            } else {
+                None
+            };
+        }
+        number = 10 * number + (*b - b'0') as u16;
     }
-    if is_signed(b, c) {
-        return last_of(0, c);
-    }
-    number_of(a, b, c)
+    Some(number)
 }
 
 // A number in three columns behind the first k.
-pub fn number_at(line: &[u8], k: usize) -> u16
+pub fn number_at(line: &[u8], k: usize) -> Option<u16>
     requires { k < 1000 }
     ensures { IsNumber (number_at k line.now) result }
 {
-    number_of(column(line, k), column(line, k + 1), column(line, k + 2))
+    decimal(unled(&columns::<3>(line, k)))
 }
 
-// The size of a number in three columns behind the first k.
-pub fn size_at(line: &[u8], k: usize) -> u16
-    requires { k < 1000 }
-    ensures { IsNumber (size_in (columns k 3 line.now)) result }
+// How far a number in two or three columns behind the first k, which may have a sign, is from 0.
+pub fn size_at<const N: usize>(line: &[u8], k: usize) -> Option<u16>
+    requires { (k < 1000) × (N ≤ 3) }
+    ensures { IsNumber (size_in (columns k N line.now)) result }
 {
-    size_of(column(line, k), column(line, k + 1), column(line, k + 2))
-}
-
-// The same in two columns: a blank before them changes nothing.
-pub fn small_size_at(line: &[u8], k: usize) -> u16
-    requires { k < 1000 }
-    ensures { IsNumber (size_in (columns k 2 line.now)) result }
-{
-    size_of(BLANK, column(line, k), column(line, k + 1))
+    let field: [u8; N] = columns(line, k);
+    decimal(unled(unsigned(unled(&field))))
 }

@@ -1,88 +1,73 @@
-// The counts line and an atom line.
-ghost use Rattle.std.specs.Prelude.{◌≡◌, [], ◌∷◌, length};
-ghost use Prim.Native.Nat.{◌<◌, compare};
-ghost use Rattle.std.proofs.Math.Dec.{compare_is_eq};
-ghost use Rattle.lists.specs.Order.{lex};
-ghost use Rattle.molecule.specs.Kinds.{kind_of_symbol};
-ghost use Rattle.ctfile.specs.Fields.{columns, unled, untrailed};
-ghost use Rattle.ctfile.specs.Forms.{is_version, is_counts_line, kind_in, is_atom_line};
+// The counts line, an atom line and a bond line.
+ghost use Rattle.std.specs.Prelude.{◌≡◌, ◌<◌, length};
+ghost use Rattle.ctfile.specs.Forms.{is_version, is_atom_line, from_one};
+ghost use Rattle.ctfile.specs.Forms as rules;
+ghost use Rattle.kinds.specs.Known.{kind_in};
+ghost use Rattle.molfile.specs.Taking.{AreCounts, IsBond};
 
-use crate::field::{BLANK, NO_NUMBER, are_blank, column, number_at, small_size_at};
-use kinds::{NO_KIND, kind_of_capital, kind_of_letters};
-
-// Whether six columns behind the first k hold a text.
-pub fn holds(line: &[u8], k: usize, text: &[u8; 6]) -> bool
-    requires { (k < 1000) × (length text.now ≡ 6) }
-    ensures { result ≡ compare_is_eq (lex compare text.now (columns k 6 line.now)) }
-{
-    let mut i: usize = 0;
-    while i < 6 {
-        if column(line, k + i) != text[i] {
-            return false;
-        }
-        i += 1;
-    }
-    true
-}
+use crate::field::{are_blank, columns, number_at, size_at, unled, untrailed};
+use drawing::{Bond, Counts};
+use kinds::Kind;
 
 fn is_version(line: &[u8]) -> bool
     ensures { result ≡ is_version line.now }
 {
-    if holds(line, 33, b" V2000") {
-        return true;
-    }
-    holds(line, 33, b"V2000 ")
+    let version = columns::<6>(line, 33);
+    version == *b" V2000" || version == *b"V2000 "
 }
 
-pub fn is_counts_line(line: &[u8]) -> bool
-    ensures { result ≡ is_counts_line line.now }
+// What a counts line counts, and none where a line is no counts line.
+pub fn counts_in(line: &[u8]) -> Option<Counts>
+    ensures { AreCounts line.now result }
 {
     if !is_version(line) {
-        return false;
+        return None;
     }
-    if number_at(line, 0) == NO_NUMBER {
-        return false;
-    }
-    number_at(line, 3) < NO_NUMBER
-}
-
-// The kind of a symbol in two columns.
-fn kind_of_two(b: u8, c: u8) -> u8
-    ensures { result ≡ kind_of_symbol (untrailed (unled (b ∷ c ∷ []))) }
-{
-    if c == BLANK {
-        return kind_of_capital(b);
-    }
-    if b == BLANK {
-        return kind_of_capital(c);
-    }
-    kind_of_letters(b, c)
+    let atoms = number_at(line, 0)? as usize;
+    let bonds = number_at(line, 3)? as usize;
+    Some(Counts { atoms, bonds })
 }
 
 // The kind of an atom line's symbol. No symbol has three letters.
-pub fn kind_in(line: &[u8]) -> u8
-    ensures { result ≡ kind_in line.now }
+pub fn kind_in(line: &[u8]) -> Option<Kind>
+    ensures { kind_in result ≡ rules.kind_in line.now }
 {
-    let a = column(line, 31);
-    let b = column(line, 32);
-    let c = column(line, 33);
-    if a == BLANK {
-        return kind_of_two(b, c);
+    let field: [u8; 3] = columns(line, 31);
+    let symbol = untrailed(unled(&field));
+    match symbol.len() {
+        1 => Kind::of_capital(symbol[0]),
+        2 => Kind::of_letters(symbol[0], symbol[1]),
+        _ => None,
     }
-    if c == BLANK {
-        return kind_of_two(a, b);
-    }
-    NO_KIND
 }
 
 pub fn is_atom_line(line: &[u8]) -> bool
     ensures { result ≡ is_atom_line line.now }
 {
-    if are_blank(column(line, 31), column(line, 32), column(line, 33)) {
-        return false;
+    let symbol: [u8; 3] = columns(line, 31);
+    !are_blank(&symbol) && size_at::<2>(line, 34) == Some(0) && number_at(line, 36) == Some(0)
+}
+
+// A number that counts from 1, counted from 0. No atom has the number 0: of at most 999 atoms none is at the place 1000.
+fn from_one(number: u16) -> u16
+    ensures { result ≡ from_one number }
+{
+    if number == 0 { 1000 } else { number - 1 }
+}
+
+// The bond of a bond line, and none where a line is no bond line.
+pub fn bond_in(line: &[u8]) -> Option<Bond>
+    ensures { IsBond line.now result }
+{
+    if line.len() < 9 {
+        return None;
     }
-    if small_size_at(line, 34) != 0 {
-        return false;
-    }
-    number_at(line, 36) == 0
+    let one = number_at(line, 0)?;
+    let two = number_at(line, 3)?;
+    let code = number_at(line, 6)?;
+    Some(Bond {
+        one: from_one(one),
+        two: from_one(two),
+        code,
+    })
 }

@@ -2,57 +2,50 @@
 ghost use Rattle.std.specs.Prelude.{◌≡◌, ◌+◌, ◌≤◌, ◌<◌, length, drop};
 ghost use Rattle.molfile.specs.Cutting.{line_feed, IsLine};
 
-// The offset behind a line's last byte, and that of the next line.
+// The bytes of a line without its end, and the offset of the next line.
 #[derive(Clone, Copy, Drop)]
-pub struct Line {
-    pub end: usize,
+pub struct Line<'a> {
+    pub bytes: &'a [u8],
     pub next: usize,
 }
 
-const LF: u8 = 10;
+const LF: u8 = b'\n';
 
-const CR: u8 = 13;
+const CR: u8 = b'\r';
 
 // The offset of the first LF from an offset on, or the file's length.
 fn line_feed(file: &[u8], at: usize) -> usize
     requires { at ≤ length file.now }
     ensures { result ≡ at + line_feed (drop at file.now) }
 {
-    let n = file.len();
-    let mut i = at;
-    while i < n {
+    for i in at..file.len() {
         if file[i] == LF {
             return i;
         }
-        i += 1;
     }
-    n
+    file.len()
 }
 
 // The line that begins at an offset.
-pub fn line_at(file: &[u8], at: usize) -> Line
+pub fn line_at(file: &[u8], at: usize) -> Line<'_>
     requires { at < length file.now }
     ensures { IsLine file.now at result }
 {
-    let n = file.len();
     let feed = line_feed(file, at);
-    if n <= feed {
-        return Line { end: n, next: n };
-    }
-    if feed == at {
+    if file.len() <= feed {
         return Line {
-            end: feed,
-            next: feed + 1,
+            bytes: &file[at..],
+            next: file.len(),
         };
     }
-    if file[feed - 1] == CR {
+    if at < feed && file[feed - 1] == CR {
         return Line {
-            end: feed - 1,
+            bytes: &file[at..feed - 1],
             next: feed + 1,
         };
     }
     Line {
-        end: feed,
+        bytes: &file[at..feed],
         next: feed + 1,
     }
 }

@@ -1,17 +1,14 @@
--- Where a refused line stands: the words for its place, and how long they are at most.
-use mathlib.Core.Bool.{Bool, true, false, cond}
+-- Where a refused line stands: the words for its place.
 use mathlib.Core.List.{List, [], ◌++◌}
 use mathlib.Core.Path.{◌≡◌, sym}
-use Prim.Native.Nat.{ℕ, ◌+◌, ◌≤◌}
+use Prim.Native.Nat.{ℕ, ◌+◌}
 use native.Mathlib.Omega.{arith}
-use lib.Dec.{eqb}
-use lib.ListN.{length, take, length-append, take-append-drop}
+use lib.ListN.{length, take, take-append-drop}
 use borrow.Author.Tests.{eq-eqb, ne_eqb}
 use Rattle.lists.specs.Quoted as quoted
 use Rattle.ctfile.specs.Lines.{lines_of}
 use Rattle.lines.specs.Numbers.{decimal_of}
 use Rattle.lines.specs.Written.{Puts}
-use Rattle.lines.proofs.Shown.{digits-most}
 use Rattle.molnaming.specs.Lines.{line_number, place_of}
 
 abbrev pub at-line : (place line : ℕ) → List ℕ
@@ -29,23 +26,6 @@ module _ (file : List ℕ) (refusal place : ℕ) where
   pub not_placed : (refusal ≡ 11 → ⊥) → [] ≡ place_of file refusal place
   unfolding place_of
   not_placed n = rw (ne_eqb refusal 11 n)
-
-  pub place-most : length (place_of file refusal place) ≤ 56
-  unfolding place_of
-  place-most = go (eqb refusal 11)
-    where
-      few : length (at-line place (line_number file place)) ≤ 56
-      few =
-          omega (
-            arith,
-            length-append (decimal_of place) (quoted.bytes_of ", line " ++ decimal_of (line_number file place)),
-            digits-most 20 place,
-            digits-most 20 (line_number file place),
-          )
-
-      go : (b : Bool) → length (cond b (at-line place (line_number file place)) []) ≤ 56
-      go true = few
-      go false = omega arith
 
 pub puts_none : (b : List ℕ) (at : ℕ) → Puts [] b at b at
 puts_none b at = record { long = omega arith; is = sym (take-append-drop at b) }

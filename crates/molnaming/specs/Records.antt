@@ -1,8 +1,7 @@
 -- The records of an SDF file, "several records parted by `$$$$` lines".
-use Rattle.std.specs.Prelude.{Bool, cond, not, ◌||◌, List, [], ◌∷◌, ◌++◌, ℕ, eqb, leb, length, get_or, take}
+use Rattle.std.specs.Prelude.{Bool, cond, not, ◌||◌, List, [], ◌∷◌, ◌++◌, ℕ, eqb, leb, length, take}
+use Rattle.std.specs.List.{list_all}
 use Rattle.lists.specs.Quoted as quoted
-use Rattle.lists.specs.Upto.{each}
-use Rattle.lists.specs.Tests.{every}
 use Rattle.lines.specs.Fields.{same_bytes}
 
 -- "parted by `$$$$` lines": a line that begins so
@@ -14,7 +13,7 @@ unfoldable pub is_blank : ℕ → Bool
 is_blank b = eqb b 32 || (eqb b 9 || (eqb b 13 || eqb b 10))
 
 abbrev pub all_blank : List ℕ → Bool
-all_blank l = every (each (length l) (λ i. is_blank (get_or l i 0)))
+all_blank l = list_all is_blank l
 
 -- what follows the last parting line, where it is too long for a molfile or some line of it is not blank
 unfoldable pub is_record : (rest : List ℕ) → Bool

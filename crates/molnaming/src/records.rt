@@ -1,78 +1,40 @@
 // Records of molfiles in an input, parted by lines that begin with $$$$.
-ghost use Rattle.std.specs.Prelude.{cond, [], ◌∷◌, ◌++◌, ◌≡◌, ◌≤◌, length, take, IfOk, OnErr};
-ghost use Rattle.lines.specs.Gathered.{Inside};
+ghost use Rattle.std.specs.Prelude.{◌≡◌, ◌≤◌, length, take, IfSome, IfOk, OnErr};
 ghost use Rattle.molnaming.specs.Records.{is_parting, is_blank, all_blank, is_record, with_line};
 
-use crate::part;
-use lines::input::Unread;
-use lines::{field, input};
+use lines::NEWLINE;
+use lines::input::{Lines, MOST_TURNS};
 use std::io;
 use std::io::Read;
 
-// A record: how many of its bytes there are, and whether it is there or the input had ended.
-#[derive(Clone, Copy, Drop)]
-pub struct Gathered {
-    pub length: usize,
-    pub there: bool,
-    pub unread: Unread,
-}
-
-const SPACE: u8 = 32;
-
-const TAB: u8 = 9;
-
-const CARRIAGE_RETURN: u8 = 13;
-
-const NEWLINE: u8 = 10;
-
 // One byte more than a molfile may have is enough for refusal 4.
-const ENOUGH: usize = 65537;
-
-// A proved loop has to end, and nothing says that the input does.
-const MOST_LINES: u64 = 9223372036854775808;
+pub const ENOUGH: usize = 65537;
 
 fn is_parting(line: &[u8]) -> bool
     ensures { result ≡ is_parting line.now }
 {
-    field::is_word(part::front(line, 4), b"$$$$")
+    line.starts_with(b"$$$$")
 }
 
+#[tactic(auto, unfolding(crate::specs::Records::is_blank))]
 fn is_blank(b: u8) -> bool
     ensures { result ≡ is_blank b }
 {
-    if b == SPACE {
-        return true;
-    }
-    if b == TAB {
-        return true;
-    }
-    if b == CARRIAGE_RETURN {
-        return true;
-    }
-    b == NEWLINE
+    matches!(b, b' ' | b'\t' | b'\r' | b'\n')
 }
 
 fn all_blank(bytes: &[u8]) -> bool
     ensures { result ≡ all_blank bytes.now }
 {
-    let mut i: usize = 0;
-    while i < bytes.len() {
-        if !is_blank(bytes[i]) {
-            return false;
-        }
-        i += 1;
-    }
-    true
+    bytes.iter().all(|b| is_blank(*b))
 }
 
 // Whether what follows the last parting line is a record.
+#[tactic(auto, unfolding(crate::specs::Records::is_record))]
 fn is_record(rest: &[u8]) -> bool
     ensures { result ≡ is_record rest.now }
 {
-    if ENOUGH <= rest.len() {
-        return true;
-    }
-    !all_blank(rest)
+    ENOUGH <= rest.len() || !all_blank(rest)
 }
 
 // The record with the newline of the line that was read behind it, which ends at `end`; answers how many bytes are held.
@@ -90,42 +52,23 @@ fn hold(file: &mut [u8], end: usize, ended: bool) -> usize
     end + 1
 }
 
-// The next record at the start of a buffer, as much of it as tells its name or refusal.
-pub fn next_record<R: Read>(
-    reader: &mut R,
-    buffer: &mut [u8],
-    unread: Unread,
-    file: &mut [u8],
-) -> io::Result<Gathered>
-    requires { Inside unread buffer.old × (65541 ≤ length file.old) }
-    ensures ok { IfOk result (λ g. (g.length ≤ 65537) × Inside g.unread buffer.new) }
-    ensures err { OnErr result ((length buffer.new ≡ length buffer.old) × (length file.new ≡ length file.old)) }
+// The next record at the start of a buffer, as much of it as tells its name or refusal; answers how many bytes there are.
+pub fn next_record<R: Read>(lines: &mut Lines<R>, file: &mut [u8]) -> io::Result<Option<usize>>
+    requires { 65541 ≤ length file.old }
+    ensures ok { IfOk result (λ o. IfSome o (λ n. n ≤ 65537)) }
+    ensures err { OnErr result (length file.new ≡ length file.old) }
+    ensures kept { length lines.new.buffer.now ≡ length lines.old.buffer.now }
 {
-    let mut left = unread;
-    let mut held: usize = 0;
-    for _ in 0u64..MOST_LINES {
-        let l = input::next_line(reader, buffer, left, &mut file[held..])?;
-        left = l.unread;
-        if !l.there {
-            return Ok(Gathered {
-                length: held,
-                there: is_record(&file[..held]),
-                unread: left,
-            });
-        }
-        let end = held + l.length;
+    let mut held = 0;
+    for _ in 0..MOST_TURNS {
+        let Some(line) = lines.next_line(&mut file[held..])? else {
+            return Ok(is_record(&file[..held]).then_some(held));
+        };
+        let end = held + line.length;
         if is_parting(&file[held..end]) {
-            return Ok(Gathered {
-                length: held,
-                there: true,
-                unread: left,
-            });
+            return Ok(Some(held));
         }
-        held = hold(file, end, l.ended);
+        held = hold(file, end, line.ended);
     }
-    Ok(Gathered {
-        length: held,
-        there: false,
-        unread: left,
-    })
+    Ok(None)
 }

@@ -4,3 +4,4 @@ pub mod Molfiles
 pub mod Runs
 pub mod Read
 pub mod Fits
+pub mod Cards

@@ -1,24 +1,32 @@
 -- A molfile read and numbered: its answer is that of the molecule it folds to, by the fault and the place of the file.
 use mathlib.Core.Bool.{Bool, true, false, cond}
 use mathlib.Core.List.{List}
-use mathlib.Core.Path.{◌≡◌, refl}
+use mathlib.Core.Path.{◌≡◌, refl, sym, ◌∙◌, ap, subst}
 use Prim.Native.Nat.{ℕ}
 use native.Mathlib.Omega.{arith}
 use lib.Dec.{ltb}
 use lib.ListN.{length}
+use Rattle.std.specs.Prelude.{Result, Ok, IfOk}
+use Rattle.refusal.specs.declared.Refused.{Refused}
+use Rattle.refusal.specs.Numbers.{refused_in}
 use Rattle.molecule.specs.Molecule.{Molecule}
+use Rattle.molecule.specs.Renumbering.{Renumbered}
+use Rattle.molecule.proofs.Sound.{Sound}
+use Rattle.table.specs.declared.Table.{Table}
+use Rattle.table.specs.View.{view_of}
 use Rattle.rules.specs.Answers.{refused, numbered, name_out}
+use Rattle.rules.specs.Allowed as rules
 use Rattle.rules.proofs.Answered.{judged-faulty, judged-answered}
 use Rattle.ctfile.specs.Filed.{Verdict, sound, broken, verdict, drawing_of}
 use Rattle.ctfile.specs.Drawings.{folded, drawing_fault}
-use Rattle.ctfile.specs.Molfiles.{most_file, name_of_drawing, unless_broken, name_of_molfile}
+use Rattle.ctfile.specs.Molfiles.{most_file, name_of_drawing, unless_broken, name_of_molfile, MolfileRun}
 use Rattle.ctfile.proofs.FoldedSound.{folded-sound}
-use Rattle.molfile.specs.declared.MolfileRead.{MolfileRead}
 use Rattle.molfile.specs.Reading.{refusal_by, place_by, file_fault, fault_place, IsRead}
-use Rattle.numbering.specs.declared.judged.Numbered.{Numbered}
-use Rattle.numbering.specs.Judged.{IsNumbered}
+use Rattle.scallopgrid.specs.Numbered.{Listed}
+use Rattle.scallopgrid.specs.Returned.{AnswersAs}
 use Rattle.scallopgrid.proofs.Faults.{Answers}
-use Rattle.scallopgrid.proofs.Steps.{Numbers, numbers}
+use Rattle.scallopgrid.proofs.Steps.{listed, numbered-alike, name_out-alike}
+use Rattle.scallopgrid.proofs.Runs.{run-read}
 
 module _ (file : List ℕ) (allowance room : ℕ) where
   abbrev M : Molecule
@@ -52,8 +60,18 @@ drawing-faultless file = go (ltb most_file (length file)) (verdict file)
     go false sound e = e
     go false (broken p) e = absurd (omega arith)
 
-pub molfile_numbers : (file : List ℕ) (allowance : ℕ) (r : MolfileRead) → IsRead file r → (s : Numbered) → IsNumbered r.refusal r.table allowance s
-    → Numbers (file_fault file) (folded (drawing_of file)) allowance s
-molfile_numbers file allowance r R =
-    numbers (file_fault file) (folded (drawing_of file)) allowance r.refusal r.table
-    (record { refusal = R.refusal; tidy = R.tidy; view = R.view; sound = λ e. folded-sound (drawing_of file) (drawing-faultless file e) })
+module _ (file : List ℕ) (read : Result Table Refused) (R : IsRead file read) where
+  drawn : refused_in read ≡ 0 → Sound (folded (drawing_of file))
+  drawn z = folded-sound (drawing_of file) (drawing-faultless file (sym R.refusal ∙ z))
+
+  pub molfile-listed : IfOk read Listed
+  molfile-listed = listed (folded (drawing_of file)) read R.tidy R.view drawn
+
+  pub molfile_run : (allowance : ℕ) (lent : List ℕ) (left : rules.Result) → AnswersAs name_out read allowance lent left → MolfileRun file allowance lent left
+  molfile_run allowance lent left A =
+      run-read name_out (file_fault file) (fault_place file) (folded (drawing_of file)) allowance lent _ (molfile_answers file allowance (length lent)) read R.refusal R.place same left A
+    where
+      same : (t : Table) → read ≡ Ok t → numbered name_out allowance (length lent) (view_of t) ≡ numbered name_out allowance (length lent) (folded (drawing_of file))
+      same t e =
+          let E = subst (λ (q : Result Table Refused). IfOk q (λ u. Renumbered (λ a. a) (folded (drawing_of file)) (view_of u))) e R.view in
+          numbered-alike name_out allowance (length lent) (folded (drawing_of file)) (view_of t) E (name_out-alike E (drawn (ap refused_in e)))

@@ -1,5 +1,5 @@
 -- The arrays of the flood: an atom that is new has room in the queue, and a row is seen slot by slot.
-use mathlib.Core.Bool.{Bool, true, false, cond, not}
+use mathlib.Core.Bool.{Bool, true, false, cond}
 use mathlib.Core.List.{List}
 use mathlib.Core.Path.{◌≡◌, refl, ◌∙◌, ap}
 use Prim.Native.Nat.{ℕ, suc, ◌+◌, ◌*◌, ◌<◌, ◌≤◌}
@@ -12,15 +12,16 @@ use lib.Seq.{drop-cons, get_or-set_same, get_or-set_other}
 use borrow.Author.Tests.{eq-eqb, ne_eqb}
 use Rattle.lists.proofs.Counts.{count-fewer, count-split, count-one}
 use Rattle.table.specs.Arrays.{row_in}
-use Rattle.table.specs.Flood.{Flood, is_seen, see, see_all, Counted}
+use Rattle.table.specs.Flood.{is_seen, see, see_all, Counted}
+use Rattle.table.specs.declared.flood.Flood.{Flood}
 use Rattle.table.proofs.RowLaws.{row_at, row-long}
 
 -- an atom that was not seen has room in the queue
-pub counted-room : (f : Flood) (b : ℕ) → Counted f → b < 64 → get_or f.seen b 0 ≡ 0 → f.end < 64
-counted-room f b C h e = omega (arith, C.end, count-fewer 64 (is_seen f) b h (ap not (eq-eqb (get_or f.seen b 0) 0 e)))
+pub counted-room : (f : Flood) (b : ℕ) → Counted f → b < 64 → is_seen f b ≡ false → f.end < 64
+counted-room f b C h e = omega (arith, C.end, count-fewer 64 (is_seen f) b h e)
 
 abbrev pub added : Flood → ℕ → Flood
-added f b = record { seen = set f.seen b 1; queue = set f.queue f.end b; end = f.end + 1 }
+added f b = record { seen = set f.seen b true; queue = set f.queue f.end b; end = f.end + 1 }
 
 -- the flood stays as it is, or the atom is new in it
 pub see-cases : (P : Flood → Type 0) (f : Flood) (b : ℕ) → (is_seen f b ≡ true → P f) → (is_seen f b ≡ false → P (added f b)) → P (see f b)
@@ -37,13 +38,13 @@ added-seen f b x l h e = go (ℕ_discrete x b)
   where
     go : Dec (x ≡ b) → cond {A = ℕ} (is_seen (added f b) x) 1 0 ≡ cond (is_seen f x) 1 0 + cond (eqb x b) 1 0
     go (yes q) =
-        let s : is_seen (added f b) x ≡ true = ap (λ (y : ℕ). is_seen (added f b) y) q ∙ ap (λ (v : ℕ). not (eqb v 0)) (get_or-set_same f.seen b 1 0 (omega arith)) in
+        let s : is_seen (added f b) x ≡ true = ap (λ (y : ℕ). is_seen (added f b) y) q ∙ get_or-set_same f.seen b true false (omega arith) in
         rw (s, ap (is_seen f) q ∙ e, eq-eqb x b q)
-    go (no q) = rw (ap (λ (v : ℕ). not (eqb v 0)) (get_or-set_other f.seen b x 1 0 q), ne_eqb x b q) (omega arith)
+    go (no q) = rw (get_or-set_other f.seen b x true false q, ne_eqb x b q) (omega arith)
 
 pub added-counted : (f : Flood) (b : ℕ) → Counted f → b < 64 → is_seen f b ≡ false → Counted (added f b)
 added-counted f b C h e = record {
-  seen_long = length-set f.seen b 1 ∙ C.seen_long;
+  seen_long = length-set f.seen b true ∙ C.seen_long;
   queue_long = length-set f.queue f.end b ∙ C.queue_long;
   end =
       omega (

@@ -1,5 +1,5 @@
 -- The flood decides connectedness: what is seen lies in every closed set that has atom 0, and when the queue is done it is closed itself.
-use mathlib.Core.Bool.{Bool, true, false, cond, not, true≢false}
+use mathlib.Core.Bool.{Bool, true, false, cond, true≢false}
 use mathlib.Core.List.Memᴰ
 use mathlib.Core.List.{List, [], ◌∷◌, Memᴰ}
 use mathlib.Core.Logic.{◌≢◌, ◌⊎◌, inl, inr}
@@ -11,7 +11,7 @@ use native.Mathlib.Omega.{arith}
 use lib.Dec.{eqb}
 use lib.ListN.{get_or, set, replicate}
 use lib.Seq.{get_or-set_same, get_or-set_other}
-use borrow.Author.Tests.{eq-eqb, ne_eqb, not-false}
+use borrow.Author.Tests.{eq-eqb, ne_eqb}
 use Rattle.lists.specs.Upto.{each}
 use Rattle.lists.specs.Tests.{count}
 use Rattle.lists.proofs.Steps.{count_next}
@@ -21,7 +21,8 @@ use Rattle.molecule.proofs.Neighbours.{mem_neighbours, of_neighbours}
 use Rattle.molecule.proofs.Connected.{Even, Closed, connected-linked, linked-connected}
 use Rattle.molecule.proofs.Sound.{Linked}
 use Rattle.table.specs.Arrays.{Arrays, Tidy, HasRow, row_in, as_molecule}
-use Rattle.table.specs.Flood.{Flood, is_seen, see, see_all, Counted}
+use Rattle.table.specs.Flood.{is_seen, see, see_all, Counted}
+use Rattle.table.specs.declared.flood.Flood.{Flood}
 use Rattle.table.proofs.Views.{neighbours-row}
 use Rattle.table.proofs.FloodLaws.{counted-room, added, see-cases, added-counted}
 
@@ -90,10 +91,10 @@ module _ (t : Arrays) where
       low = omega (arith, T.atoms)
 
       new_seen : is_seen g b ≡ true
-      new_seen = ap (λ (v : ℕ). not (eqb v 0)) (get_or-set_same f.seen b 1 0 (omega (arith, low, F.counted.seen_long)))
+      new_seen = get_or-set_same f.seen b true false (omega (arith, low, F.counted.seen_long))
 
       old_seen : (x : ℕ) → x ≢ b → is_seen g x ≡ is_seen f x
-      old_seen x e = ap (λ (v : ℕ). not (eqb v 0)) (get_or-set_other f.seen b x 1 0 e)
+      old_seen x e = get_or-set_other f.seen b x true false e
 
       of_seen : (P : ℕ → Type 0) → P b → ((x : ℕ) → is_seen f x ≡ true → P x) → (x : ℕ) → is_seen g x ≡ true → P x
       of_seen P p q x e = go (ℕ_discrete x b)
@@ -111,14 +112,7 @@ module _ (t : Arrays) where
 
       module _ (e : is_seen f b ≡ false) where
         room : f.end < 64
-        room = counted-room f b F.counted low (eqb-zero (get_or f.seen b 0) (not-false _ e))
-          where
-            eqb-zero : (v : ℕ) → eqb v 0 ≡ true → v ≡ 0
-            eqb-zero v q = go (ℕ_discrete v 0)
-              where
-                go : Dec (v ≡ 0) → v ≡ 0
-                go (yes k) = k
-                go (no k) = absurd (true≢false (sym q ∙ ne_eqb v 0 k))
+        room = counted-room f b F.counted low e
 
         last : get_or g.queue f.end 0 ≡ b
         last = get_or-set_same f.queue f.end b 0 (omega (arith, room, F.counted.queue_long))
@@ -246,19 +240,19 @@ module _ (t : Arrays) where
 
 -- at the start atom 0 alone was seen
 abbrev pub first : Flood
-first = record { seen = set (replicate 64 0) 0 1; queue = replicate 64 0; end = 1 }
+first = record { seen = set (replicate 64 false) 0 true; queue = replicate 64 0; end = 1 }
 
-get_or-zeros : (n x : ℕ) → ◌≡◌ {A = ℕ} (get_or (replicate n 0) x 0) 0
-get_or-zeros zero x = refl
-get_or-zeros (suc n) zero = refl
-get_or-zeros (suc n) (suc x) = get_or-zeros n x
+nobody : (n x : ℕ) → get_or (replicate n false) x false ≡ false
+nobody zero x = refl
+nobody (suc n) zero = refl
+nobody (suc n) (suc x) = nobody n x
 
 first-seen : (x : ℕ) → is_seen first x ≡ eqb x 0
 first-seen x = go (ℕ_discrete x 0)
   where
     go : Dec (x ≡ 0) → is_seen first x ≡ eqb x 0
     go (yes e) = ap (is_seen first) e ∙ sym (eq-eqb x 0 e)
-    go (no e) = ap (λ (v : ℕ). not (eqb v 0)) (get_or-set_other (replicate 64 0) 0 x 1 0 e ∙ get_or-zeros 64 x) ∙ sym (ne_eqb x 0 e)
+    go (no e) = get_or-set_other (replicate 64 false) 0 x true false e ∙ nobody 64 x ∙ sym (ne_eqb x 0 e)
 
 first-flooded : (t : Arrays) → 0 < t.n → Flooded t first
 first-flooded t h = record {

@@ -11,7 +11,8 @@ use Rattle.molecule.specs.Bonds.{Bond, on, joins}
 use Rattle.molecule.specs.Molecule.{Molecule, neighbours}
 use Rattle.table.specs.declared.Table.{Table}
 use Rattle.table.specs.Arrays.{Arrays, Tidy, as_molecule}
-use Rattle.table.specs.Changes.{bond_of, RowArrays, RoomFor, BondPut}
+use Rattle.table.specs.Changes.{bond_of, RoomFor, BondPut}
+use Rattle.table.specs.declared.rows.Rows.{Rows}
 use Rattle.table.proofs.Halves.{rows_of, with_rows, HalfJoinable, HalfJoined, half_roomy, half}
 
 -- the bond b can be added: its atoms are there, are two, have no bond yet with each other and fewer than six with others, and its code is one
@@ -88,8 +89,8 @@ module _ (M : Molecule) (a b c : ℕ) (J : Joinable M (bond_of a b c)) where
       }
 
 -- the same table with other rows
-abbrev pub rowed : Table → RowArrays → Table
-rowed t R = record { n = t.n; kinds = t.kinds; hydrogens = t.hydrogens; degrees = R.degrees; near = R.near; codes = R.codes }
+abbrev pub rowed : Table → Rows → Table
+rowed t R = record { n = t.n; kinds = t.kinds; hydrogens = t.hydrogens; rows = R }
 
 module _ (t : Arrays) (T : Tidy t) (a b c : ℕ) (J : Joinable (as_molecule t) (bond_of a b c)) where
   back : Joinable (as_molecule t) (bond_of b a c)
@@ -108,7 +109,7 @@ module _ (t : Arrays) (T : Tidy t) (a b c : ℕ) (J : Joinable (as_molecule t) (
   pub bond-roomy : RoomFor (rows_of t) a × RoomFor (rows_of t) b × (a ≢ b)
   bond-roomy = (half_roomy t T a b c (first-half (as_molecule t) a b c J), half_roomy t T b a c (first-half (as_molecule t) b a c back), J.apart)
 
-  pub bond-joins : (R : RowArrays) → BondPut (rows_of t) a b c R → Tidy (with_rows t R) × Joined (as_molecule t) (bond_of a b c) (as_molecule (with_rows t R))
+  pub bond-joins : (R : Rows) → BondPut (rows_of t) a b c R → Tidy (with_rows t R) × Joined (as_molecule t) (bond_of a b c) (as_molecule (with_rows t R))
   bond-joins R B =
       let one = half t T a b c (first-half (as_molecule t) a b c J) B.between B.one in
       let M = as_molecule (with_rows t B.between) in

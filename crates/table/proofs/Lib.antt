@@ -7,3 +7,4 @@ pub mod Halves
 pub mod Joins
 pub mod FloodLaws
 pub mod Flooding
+pub mod Positions

@@ -1,19 +1,18 @@
 -- The flood from atom 0, as it is kept in arrays: connectedness is decided by it.
-use Rattle.std.specs.Prelude.{Bool, cond, not, List, [], ◌∷◌, ◌≡◌, ℕ, ◌+◌, eqb, length, get_or, set}
+use Rattle.std.specs.Prelude.{Bool, true, false, cond, List, [], ◌∷◌, ◌≡◌, ℕ, ◌+◌, length, get_or, set, replicate}
+use Rattle.table.specs.declared.flood.Flood.{Flood}
 use Rattle.lists.specs.Upto.{each}
 use Rattle.lists.specs.Tests.{count}
 
--- which atoms were seen, by number; those seen, in the order in which they were; how many they are
-pub record Flood : Type 0 where
-  pub seen : List ℕ
-  pub queue : List ℕ
-  pub end : ℕ
+-- atom 0 was seen, and waits in the queue
+abbrev pub flood_start : Flood
+flood_start = record { seen = set (replicate 64 false) 0 true; queue = replicate 64 0; end = 1 }
 
 abbrev pub is_seen : Flood → ℕ → Bool
-is_seen f b = not (eqb (get_or f.seen b 0) 0)
+is_seen f b = get_or f.seen b false
 
 abbrev added : Flood → ℕ → Flood
-added f b = record { seen = set f.seen b 1; queue = set f.queue f.end b; end = f.end + 1 }
+added f b = record { seen = set f.seen b true; queue = set f.queue f.end b; end = f.end + 1 }
 
 -- an atom that was not seen before joins the queue
 unfoldable pub see : Flood → ℕ → Flood

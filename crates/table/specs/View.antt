@@ -6,7 +6,7 @@ use Rattle.table.specs.Arrays.{Arrays, as_molecule, Tidy}
 
 abbrev pub arrays_of : Table → Arrays
 arrays_of t =
-    record { n = t.n; kinds = t.kinds; hydrogens = t.hydrogens; degrees = t.degrees; near = t.near; codes = t.codes }
+    record { n = t.n; kinds = t.kinds; hydrogens = t.hydrogens; degrees = t.rows.degrees; near = t.rows.near; codes = t.rows.codes }
 
 abbrev pub view_of : Table → Molecule
 view_of t = as_molecule (arrays_of t)

@@ -5,39 +5,28 @@ ghost use Rattle.std.specs.Prelude.{◌≡◌, ◌<◌};
 ghost use Rattle.molecule.specs.Molecule.{connected};
 ghost use Rattle.table.specs.View.{view_of, TidyTable, EvenTable};
 
+use flood::Flood;
+use kinds::Kind;
+use rows::Rows;
+
 mod flood;
 pub mod rows;
 
 // An atom's number in a card or a table, from 0.
-#[derive(Clone, Copy, Drop)]
+#[derive(Clone, Copy, Debug, PartialEq, Eq, PartialOrd, Ord, Drop)]
 pub struct AtomNo(pub u8);
 
 // An atom's rank in a marking, from 1.
-#[derive(Clone, Copy, Drop)]
+#[derive(Clone, Copy, Debug, PartialEq, Eq, PartialOrd, Ord, Drop)]
 pub struct Rank(pub u8);
 
+// The first n atoms count; memory is fixed, so the arrays have room for the largest table.
 #[derive(Clone, Copy, Drop)]
 pub struct Table {
     pub n: usize,
-    pub kinds: [u8; Table::MAX_ATOMS],
+    pub kinds: [Kind; Table::MAX_ATOMS],
     pub hydrogens: [u8; Table::MAX_ATOMS],
-    pub degrees: [u8; Table::MAX_ATOMS],
-    pub near: [u8; Table::SLOTS],
-    pub codes: [u8; Table::SLOTS],
-}
-
-// Bytes are widened and narrowed by functions of their own, so that only the index is asked where an array is read.
-fn wide(x: u8) -> usize
-    ensures { result ≡ x }
-{
-    x as usize
-}
-
-fn narrow(x: usize) -> u8
-    requires { x < 256 }
-    ensures { result ≡ x }
-{
-    x as u8
+    pub rows: Rows,
 }
 
 impl Table {
@@ -59,30 +48,25 @@ impl Table {
     {
         Table {
             n: 0,
-            kinds: [0u8; Table::MAX_ATOMS],
+            kinds: [Kind::H; Table::MAX_ATOMS],
             hydrogens: [0u8; Table::MAX_ATOMS],
-            degrees: [0u8; Table::MAX_ATOMS],
-            near: [0u8; Table::SLOTS],
-            codes: [0u8; Table::SLOTS],
+            rows: Rows::empty(),
         }
     }
 
     // Whether every atom is reached from atom 0: atoms are looked at in the order in which they were seen, each row once.
-    pub fn connected(self) -> bool
-        requires { TidyTable self × EvenTable self × (0 < self.n) }
-        ensures { result ≡ connected (view_of self) }
+    pub fn connected(&self) -> bool
+        requires { TidyTable self.now × EvenTable self.now × (0 < self.now.n) }
+        ensures { result ≡ connected (view_of self.now) }
     {
-        let n = self.n;
-        let mut seen = [0u8; Table::MAX_ATOMS];
-        let mut queue = [0u8; Table::MAX_ATOMS];
-        seen[0] = 1;
-        let mut end: usize = 1;
+        let mut flood = Flood::start();
         let mut head: usize = 0;
-        while head < end {
-            let a = AtomNo(queue[head]);
-            end = flood::visit(&self.degrees, &self.near, &mut seen, &mut queue, end, a);
+        // The queue grows while it is gone through, so no range counts the turns.
+        while head < flood.end {
+            let a = AtomNo(flood.queue[head]);
+            flood.visit(&self.rows, a);
             head += 1;
         }
-        end == n
+        flood.end == self.n
     }
 }

@@ -63,7 +63,7 @@ module _ (s : rules.State) (m k : ℕ) (R : Reached s) (J : Judged s (atom m k))
       let M = reached-room s R in
       let here : s.cursor < length s.kinds = S.cursor (omega arith) in
       let c : g.cursor.0 ≡ s.cursor = ap (λ (v : rules.State). v.cursor) e in
-      let places : g.n ≡ length s.kinds + 1 = sym (view_places g t) ∙ ap (λ (v : rules.State). length v.kinds) e ∙ length-append s.kinds (k ∷ []) in
+      let places : g.n ≡ length s.kinds + 1 = sym (view_places g) ∙ ap (λ (v : rules.State). length v.kinds) e ∙ length-append s.kinds (k ∷ []) in
       let bonds : g.drawn ≡ length s.bonds = sym (view-bonds g) ∙ ap (λ (v : rules.State). length v.bonds) e in
       let all : length (after s (atom m k)).bonds ≤ 208 = reached-bonds (after s (atom m k)) next in
       let one : length (after s (atom m k)).bonds ≡ length s.bonds + 1 = sym (ap (λ (v : rules.State). length v.bonds) (later_after n)) ∙ length-append s.bonds _ in
@@ -74,14 +74,14 @@ module _ (s : rules.State) (m k : ℕ) (R : Reached s) (J : Judged s (atom m k))
         from = omega arith;
         to = omega arith;
         apart = λ q. omega arith;
-        few_h = omega (arith, t.hydrogens_on g.cursor.0 (omega arith), ap (λ (v : rules.State). hydrogens_on v g.cursor.0) e, grown_hydrogens_on s k S g.cursor.0, M.hydrogens_at g.cursor.0);
-        few_h' = omega (arith, t.hydrogens_on (length s.kinds) (omega arith), ap (λ (v : rules.State). hydrogens_on v (length s.kinds)) e, grown_hydrogens_on s k S (length s.kinds), M.hydrogens_at (length s.kinds));
-        few = omega (arith, t.bonds_on g.cursor.0 (omega arith), ap (λ (v : rules.State). bonds_on v g.cursor.0) e, grown_bonds_on s k S g.cursor.0, M.bonds_at g.cursor.0);
-        few' = omega (arith, t.bonds_on (length s.kinds) (omega arith), ap (λ (v : rules.State). bonds_on v (length s.kinds)) e, grown_bonds_on s k S (length s.kinds), M.bonds_at (length s.kinds));
+        few_h = omega (arith, t.hydrogens_on g.cursor.0 (omega arith), ap (λ (v : rules.State). hydrogens_on v g.cursor.0) e, grown_hydrogens_on s S k g.cursor.0, M.hydrogens_at g.cursor.0);
+        few_h' = omega (arith, t.hydrogens_on (length s.kinds) (omega arith), ap (λ (v : rules.State). hydrogens_on v (length s.kinds)) e, grown_hydrogens_on s S k (length s.kinds), M.hydrogens_at (length s.kinds));
+        few = omega (arith, t.bonds_on g.cursor.0 (omega arith), ap (λ (v : rules.State). bonds_on v g.cursor.0) e, grown_bonds_on s S k g.cursor.0, M.bonds_at g.cursor.0);
+        few' = omega (arith, t.bonds_on (length s.kinds) (omega arith), ap (λ (v : rules.State). bonds_on v (length s.kinds)) e, grown_bonds_on s S k (length s.kinds), M.bonds_at (length s.kinds));
       }
     where
       heavy-same : heavy_bonds (grown_by s k) ≡ heavy_bonds s
-      heavy-same = grown_heavy_bonds s k (reached-reader s R)
+      heavy-same = grown_heavy_bonds s (reached-reader s R) k
 
 module _ (st : State) (H : Held st) where
   abbrev s : rules.State
@@ -91,7 +91,7 @@ module _ (st : State) (H : Held st) where
     pub reference-there : Judged s (reference t) → (st.n ≡ 0 → ⊥) × (place_of s t ≤ st.n)
     reference-there J =
         let C = clear_of s (reference t) J.clear in
-        let e = view_places st H.tallied in
+        let e = view_places st in
         let z : length s.kinds ≡ 0 → ⊥ = eqb-false _ _ C.two in
         let l : place_of s t < length s.kinds = leb-false _ _ C.five in
         ((λ q. z (e ∙ q)), omega arith)
@@ -105,7 +105,7 @@ module _ (st : State) (H : Held st) where
       C = clear_of s (ring m t) J.clear
 
       pub ring-some : st.n ≡ 0 → ⊥
-      ring-some q = eqb-false _ _ C.two (view_places st H.tallied ∙ q)
+      ring-some q = eqb-false _ _ C.two (view_places st ∙ q)
 
       pub ring-after : bonded_by s (place_of s t) m ≡ after s (ring m t)
       unfolding after
@@ -116,7 +116,7 @@ module _ (st : State) (H : Held st) where
           let T = H.tallied in
           let S = reached-reader s H.reached in
           let M = reached-room s H.reached in
-          let e = view_places st T in
+          let e = view_places st in
           let to : place_of s t < length s.kinds = leb-false _ _ C.five in
           let here : st.cursor.0 < length s.kinds = S.cursor (omega arith) in
           let ne : st.cursor.0 ≡ place_of s t → ⊥ = eqb-false _ _ (or_neither _ _ C.six).0 in

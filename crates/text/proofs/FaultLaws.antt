@@ -1,44 +1,27 @@
 -- The faults of an item, by the counts that a reader keeps.
-use Prim.Native.Nat.{ℕ, zero, suc, ◌+◌, ◌-◌, ◌<◌}
+use Prim.Native.Nat.{ℕ, zero, suc, ◌+◌, ◌<◌}
 use mathlib.Core.Path.{◌≡◌, refl, sym, ap, ap₂, ◌∙◌}
 use mathlib.Core.List.{List, [], ◌∷◌, ◌++◌, map}
-use mathlib.Core.Bool.{Bool, true, false, cond, not, ◌&&◌, ◌||◌, or-true, or-false}
-use native.Mathlib.Numerals.{add-one}
+use mathlib.Core.Bool.{Bool, true, false, not, ◌&&◌, ◌||◌, or-true}
 use native.Mathlib.Omega.{arith}
 use lib.ListN.{length, get_or, get_or-append}
 use lib.Seq.{get_or-append_seam}
 use lib.Dec.{eqb, ltb}
 use borrow.Author.Tests.{eq-eqb, ne_eqb, eqb-true, lt-ltb, le-ltb}
-use Rattle.lists.specs.Upto.{upto, each}
 use Rattle.lists.specs.Tests.{count, some}
-use Rattle.lists.proofs.Steps.{each-zero, some_next}
-use Rattle.lists.proofs.Tested.{some-pass}
-use Rattle.lists.proofs.Upto.{mem_upto}
 use Rattle.molecule.specs.Bonds.{Bond, on, joins}
 use Rattle.sling.specs.Items.{Target, at, Item, atom, reference, ring}
 use Rattle.sling.specs.Reading.{State, place_of, after, drawn, is_h, to_h, hydrogens_on, bonds_on}
 use Rattle.sling.specs.Faults.{wrong_h, broken_h, heavy_atoms, hydrogen_atoms, heavy_bonds, over, item_fault}
-use Rattle.lists.proofs.All.{count-all_none}
 use Rattle.lists.proofs.Passed.{count-snoc}
 use Rattle.sling.proofs.Tidy.{Reader}
 use Rattle.sling.proofs.Limits.{Room}
-use Rattle.text.specs.declared.tally.Tally.{Tally}
-use Rattle.text.specs.declared.fault.End.{End}
+use Rattle.text.specs.declared.state.TextAtom.{TextAtom}
 use Rattle.text.specs.Holding.{bit, h_bit, h_bond, grown_by, bonded_by}
-use Rattle.text.specs.Judging.{h_broken, over_in, over_on, opening_fault, atom_fault, ring_fault, reference_fault}
-use Rattle.text.proofs.StateLaws.{grown_hydrogens_on, grown_bonds_on, grown_heavy_bonds}
-
--- one that passes is one of them
-pub some-pass_below : (n : ℕ) (p : ℕ → Bool) (a : ℕ) → a < n → p a ≡ true → some (each n p) ≡ true
-unfolding each
-some-pass_below n p a h e = some-pass p (upto n) a (mem_upto n a h) e
-
-pub none-paired : (f : ℕ → Bool) → some (each 0 f) ≡ false
-unfolding some
-none-paired f = ap some (each-zero f)
-
-pub still_none : (i : ℕ) (f : ℕ → Bool) → some (each i f) ≡ false → f i ≡ false → some (each (i + 1) f) ≡ false
-still_none i f e h = rw (add-one i, some_next i f, e, h)
+use Rattle.text.specs.Changing.{fresh, raised}
+use Rattle.text.specs.Judging.{h_broken, Counts, opening_fault, atom_fault, ring_fault, reference_fault}
+use Rattle.text.specs.Judging as judging
+use Rattle.text.proofs.StateLaws.{none-at, grown_hydrogens_on, grown_bonds_on, grown_heavy_bonds}
 
 -- a new bond in a state whose atoms are all there
 module _ (g : State) (x m : ℕ) where
@@ -74,12 +57,11 @@ module _ (g : State) (x m : ℕ) where
           rw (k, more (hydrogens_on g p))
       pick false e = rw e
 
-  over-is : (p q : ℕ) → on p new ≡ true → on q new ≡ true
+  over-is : (p q : ℕ) → on p new ≡ true → on q new ≡ true → (e f : TextAtom)
+      → e.hydrogens ≡ hydrogens_on g p → e.bonds ≡ bonds_on g p → f.hydrogens ≡ hydrogens_on g q → f.bonds ≡ bonds_on g q
       → over (bonded_by g x m) p q
-      ≡ (over_in (heavy_atoms g) (hydrogen_atoms g) (heavy_bonds g + bit (not (to_h g new)))
-      || over_on (hydrogens_on g p + bit (to_h g new)) (bonds_on g p + bit (not (to_h g new)))
-      || over_on (hydrogens_on g q + bit (to_h g new)) (bonds_on g q + bit (not (to_h g new))))
-  over-is p q o o' =
+      ≡ judging.over (heavy_atoms g) (hydrogen_atoms g) (heavy_bonds g + bit (not (to_h g new))) (raised (to_h g new) e) (raised (to_h g new) f)
+  over-is p q o o' e f eh eb fh fb =
       rw (
         count-snoc (λ b. not (to_h g b)) g.bonds new,
         count-snoc (λ b. on p b && to_h g b) g.bonds new,
@@ -88,32 +70,19 @@ module _ (g : State) (x m : ℕ) where
         count-snoc (λ b. on q b && not (to_h g b)) g.bonds new,
         o,
         o',
+        eh,
+        eb,
+        fh,
+        fb,
       )
-
--- what is added and taken away again
-less : (b : Bool) (x : ℕ) → x + bit (not b) ≡ x + 1 - bit b
-less true x = omega arith
-less false x = omega arith
-
-either : (x y : Bool) (n r : ℕ) → cond (x || y) n r ≡ cond x n (cond y n r)
-either true y n r = refl
-either false y n r = refl
 
 module _ (s : State) (r : Reader s) (more : 0 < length s.kinds) where
   -- the rules' state counted
-  abbrev end_of : ℕ → End
-  end_of p = record { kind = get_or s.kinds p 0; hydrogens = hydrogens_on s p; bonds = bonds_on s p }
+  abbrev atom_of : ℕ → TextAtom
+  atom_of p = record { kind = get_or s.kinds p 0; up = 0; hydrogens = hydrogens_on s p; bonds = bonds_on s p }
 
-  abbrev counts : Tally
-  counts =
-      record {
-        n = length s.kinds;
-        drawn = length s.bonds;
-        atoms = heavy_atoms s;
-        total = hydrogen_atoms s;
-        bonds = heavy_bonds s;
-        cursor = record { 0 = s.cursor };
-      }
+  abbrev counts : Counts
+  counts = record { n = length s.kinds; atoms = heavy_atoms s; total = hydrogen_atoms s; bonds = heavy_bonds s; cursor = s.cursor }
 
   module _ (m k : ℕ) where
     abbrev g : State
@@ -135,19 +104,11 @@ module _ (s : State) (r : Reader s) (more : 0 < length s.kinds) where
     latest : get_or g.kinds n 0 ≡ k
     latest = get_or-append_seam s.kinds k [] 0
 
-    none-at : (f : Bond → Bool) → count (map (λ b. on n b && f b) s.bonds) ≡ 0
-    none-at f =
-        count-all_none (λ b. on n b && f b)
-        (λ b x. rw (ne_eqb b.one n (λ e. omega (arith, x.one)), ne_eqb b.two n (λ e. omega (arith, x.two)))) s.bonds r.tidy.proper
-
-    few : (b : Bool) → over_on (0 + bit b) (0 + bit (not b)) ≡ false
-    few true = refl
-    few false = refl
-
-    pub atom-fault : (e : End) (t : Tally) → e.kind ≡ get_or s.kinds s.cursor 0 → e.hydrogens ≡ hydrogens_on s s.cursor → e.bonds ≡ bonds_on s s.cursor
-        → t.atoms ≡ heavy_atoms s → t.total ≡ hydrogen_atoms s → t.bonds ≡ heavy_bonds s → atom_fault m k e t ≡ item_fault s (atom m k)
+    pub atom-fault : (e f : TextAtom) (t : Counts) → e.kind ≡ get_or s.kinds s.cursor 0 → e.hydrogens ≡ hydrogens_on s s.cursor → e.bonds ≡ bonds_on s s.cursor
+        → f.kind ≡ k → f.hydrogens ≡ 0 → f.bonds ≡ 0
+        → t.atoms ≡ heavy_atoms s → t.total ≡ hydrogen_atoms s → t.bonds ≡ heavy_bonds s → atom_fault m e f t ≡ item_fault s (atom m k)
     unfolding item_fault
-    atom-fault e t ek eh ed ea et eb = rw (ek, eh, ed, ea, et, eb) (sym judged)
+    atom-fault e f t ek eh ed fk fh fd ea et eb = rw (ek, eh, ed, fk, fh, fd, ea, et, eb) (sym judged)
       where
         c : ℕ
         c = s.cursor
@@ -162,45 +123,34 @@ module _ (s : State) (r : Reader s) (more : 0 < length s.kinds) where
         h_is = rw (old, latest)
 
         there : wrong_h (bonded_by g n m) c n m ≡ h_broken j k m (hydrogens_on s c)
-        there = wrong_is g n m c n (rw (eq-eqb c c refl)) ∙ rw (old, latest, grown_hydrogens_on s k r c)
+        there = wrong_is g n m c n (rw (eq-eqb c c refl)) ∙ rw (old, latest, grown_hydrogens_on s r k c)
 
         new_one : wrong_h (bonded_by g n m) n c m ≡ h_broken k j m 0
-        new_one = wrong_is g n m n c (rw (eq-eqb n n refl, or-true)) ∙ rw (old, latest, grown_hydrogens_on s k r n, none-at (to_h s))
+        new_one = wrong_is g n m n c (rw (eq-eqb n n refl, or-true)) ∙ rw (old, latest, grown_hydrogens_on s r k n, none-at s r (to_h s))
 
         seven : broken_h s (atom m k) ≡ (h_broken j k m (hydrogens_on s c) || h_broken k j m 0)
         seven = rw (ne_eqb n 0 (λ e. omega arith), after-atom, there, new_one)
 
-        four : over (after s (atom m k)) c n ≡ (over_in (heavy_atoms s + 1 - bit (h_bit k)) (hydrogen_atoms s + bit (h_bit k)) (heavy_bonds s + 1 - bit h)
-            || over_on (hydrogens_on s c + bit h) (bonds_on s c + 1 - bit h))
+        four : over (after s (atom m k)) c n
+            ≡ judging.over (heavy_atoms s + bit (not (h_bit k))) (hydrogen_atoms s + bit (h_bit k)) (heavy_bonds s + bit (not h)) (raised h (atom_of c)) (raised h (fresh k 0))
         four =
             ap (λ (z : State). over z c n) after-atom
-            ∙ over-is g n m c n (rw (eq-eqb c c refl)) (rw (eq-eqb n n refl, or-true))
+            ∙ over-is g n m c n (rw (eq-eqb c c refl)) (rw (eq-eqb n n refl, or-true)) (atom_of c) (fresh k 0)
+            (sym (grown_hydrogens_on s r k c)) (sym (grown_bonds_on s r k c))
+            (sym (grown_hydrogens_on s r k n ∙ none-at s r (to_h s))) (sym (grown_bonds_on s r k n ∙ none-at s r (λ b. not (to_h s b))))
             ∙ rw (
               h_is,
-              grown_hydrogens_on s k r c,
-              grown_hydrogens_on s k r n,
-              grown_bonds_on s k r c,
-              grown_bonds_on s k r n,
-              grown_heavy_bonds s k r,
-              none-at (to_h s),
-              none-at (λ b. not (to_h s b)),
-              few h,
+              grown_heavy_bonds s r k,
               count-snoc (λ x. not (eqb x 0)) s.kinds k,
               count-snoc (λ x. eqb x 0) s.kinds k,
-              less (h_bit k) (heavy_atoms s),
-              less h (heavy_bonds s),
-              less h (bonds_on s c),
             )
-            (or-false _)
 
-        judged : item_fault s (atom m k) ≡ atom_fault m k (end_of c) counts
-        judged =
-            rw (seven, four, ne_eqb n 0 (λ e. omega arith))
-            (rw (either (h_broken j k m (hydrogens_on s c)), either (over_in (heavy_atoms s + 1 - bit (h_bit k)) (hydrogen_atoms s + bit (h_bit k)) (heavy_bonds s + 1 - bit h))))
+        judged : item_fault s (atom m k) ≡ atom_fault m (atom_of c) (fresh k 0) counts
+        judged = rw (seven, four, ne_eqb n 0 (λ e. omega arith))
 
   -- a ring bond, and a reference
   module _ (m p : ℕ) where
-    pub ring-fault : (e f : End) (t : Tally) (pair : Bool) → t.n ≡ length s.kinds → t.cursor.0 ≡ s.cursor
+    pub ring-fault : (e f : TextAtom) (t : Counts) (pair : Bool) → t.n ≡ length s.kinds → t.cursor ≡ s.cursor
         → e.kind ≡ get_or s.kinds s.cursor 0 → f.kind ≡ get_or s.kinds p 0 → e.hydrogens ≡ hydrogens_on s s.cursor → f.hydrogens ≡ hydrogens_on s p
         → e.bonds ≡ bonds_on s s.cursor → f.bonds ≡ bonds_on s p → t.atoms ≡ heavy_atoms s → t.total ≡ hydrogen_atoms s → t.bonds ≡ heavy_bonds s
         → pair ≡ some (map (joins s.cursor p) s.bonds) → ring_fault m p e f t pair ≡ item_fault s (ring m (at p))
@@ -228,18 +178,12 @@ module _ (s : State) (r : Reader s) (more : 0 < length s.kinds) where
         seven : broken_h s (ring m (at p)) ≡ (h_broken j l m (hydrogens_on s c) || h_broken l j m (hydrogens_on s p))
         seven = ap₂ ◌||◌ at-cursor at-goal
 
-        four : over (bonded_by s p m) c p ≡ (over_in (heavy_atoms s) (hydrogen_atoms s) (heavy_bonds s + 1 - bit h)
-            || over_on (hydrogens_on s c + bit h) (bonds_on s c + 1 - bit h) || over_on (hydrogens_on s p + bit h) (bonds_on s p + 1 - bit h))
-        four = over-is s p m c p (rw (eq-eqb c c refl)) (rw (eq-eqb p p refl, or-true)) ∙ rw (less h (heavy_bonds s), less h (bonds_on s c), less h (bonds_on s p))
+        four : over (bonded_by s p m) c p
+            ≡ judging.over (heavy_atoms s) (hydrogen_atoms s) (heavy_bonds s + bit (not h)) (raised h (atom_of c)) (raised h (atom_of p))
+        four = over-is s p m c p (rw (eq-eqb c c refl)) (rw (eq-eqb p p refl, or-true)) (atom_of c) (atom_of p) refl refl refl refl
 
-        judged : item_fault s (ring m (at p))
-            ≡ ring_fault m p (end_of c) (end_of p) counts (some (map (joins c p) s.bonds))
-        judged =
-            rw (seven, four, ne_eqb (length s.kinds) 0 (λ e. omega arith))
-            (rw (
-              either (over_in (heavy_atoms s) (hydrogen_atoms s) (heavy_bonds s + 1 - bit h) || over_on (hydrogens_on s c + bit h) (bonds_on s c + 1 - bit h)),
-              either (over_in (heavy_atoms s) (hydrogen_atoms s) (heavy_bonds s + 1 - bit h)),
-            ))
+        judged : item_fault s (ring m (at p)) ≡ ring_fault m p (atom_of c) (atom_of p) counts (some (map (joins c p) s.bonds))
+        judged = rw (seven, four, ne_eqb (length s.kinds) 0 (λ e. omega arith))
 
   pub reference-fault : Room s → (p : ℕ) → reference_fault (length s.kinds) p ≡ item_fault s (reference (at p))
   unfolding item_fault after
@@ -271,7 +215,7 @@ module _ (s : State) (none : length s.kinds ≡ 0) where
   alone k p q u = rw (count-snoc (λ x. not (eqb x 0)) s.kinds k, count-snoc (λ x. eqb x 0) s.kinds k) (pick s.kinds none (eqb k 0))
     where
       pick : (l : List ℕ) → length l ≡ 0 → (b : Bool)
-          → (over_in (count (map (λ x. not (eqb x 0)) l) + bit (not b)) (count (map (λ x. eqb x 0) l) + bit b) 0 || over_on 0 0 || over_on 0 0) ≡ false
+          → judging.over (count (map (λ x. not (eqb x 0)) l) + bit (not b)) (count (map (λ x. eqb x 0) l) + bit b) 0 (fresh 0 0) (fresh 0 0) ≡ false
       pick [] z true = refl
       pick [] z false = refl
       pick (x ∷ l) z b = absurd (omega arith)

@@ -1,6 +1,6 @@
 -- Folding: the atoms one by one.
 use Prim.Native.Nat.{ℕ, suc, ◌+◌, ◌≤◌, ◌<◌}
-use mathlib.Core.Path.{◌≡◌, refl, sym, ap, ◌∙◌}
+use mathlib.Core.Path.{◌≡◌, refl, sym, ap, subst, ◌∙◌}
 use mathlib.Core.List.{List, [], ◌∷◌, ◌++◌}
 use mathlib.Core.Bool.{Bool, true, false, not}
 use native.Mathlib.Decide.{ℕ_discrete}
@@ -22,7 +22,19 @@ use Rattle.sling.proofs.Folds.{folded-size}
 use Rattle.table.specs.Arrays as arrays
 use Rattle.table.specs.Arrays.{as_molecule}
 use Rattle.table.proofs.Unbonded.{unbonded, unbonded_tidy, unbonded_code, unbonded_degree}
-use Rattle.text.specs.Folding.{heavies_to, HeavyPut, BareTo}
+use Rattle.table.specs.declared.AtomNo.{AtomNo}
+use Rattle.table.specs.declared.Table.{Table}
+use Rattle.table.specs.declared.rows.Rows.{Rows}
+use Rattle.table.specs.View.{TidyTable}
+use Rattle.table.specs.Changes.{no_rows}
+use Rattle.table.proofs.Joins.{rowed}
+use Rattle.std.proofs.lemmas.List.{get_or_default}
+use Rattle.text.specs.declared.state.TextAtom.{TextAtom}
+use Rattle.text.specs.declared.state.State.{State}
+use Rattle.text.specs.Holding.{no_atom, atom_at, view_of, Held}
+use Rattle.text.specs.Folding.{molecule_of, heavies_to, BareTo, number_at}
+use Rattle.text.proofs.ReachedLaws.{reached-reader, reached-room}
+use Rattle.text.proofs.StateLaws.{view_places, view-kind}
 
 abbrev pub heavy : rules.State → ℕ → Bool
 heavy s p = not (is_h s p)
@@ -71,17 +83,14 @@ module _ (s : rules.State) (i n : ℕ) (ks hs : List ℕ) (B : Heavies s i n ks 
         hydrogens = rw e (one_more (hydrogens_on s) hs (heavies_to s i) n i h B.size (omega (arith, B.hydrogens_long)) eh B.hydrogens);
       }
 
-  pub heavies_step : ((k ≡ 0 → ⊥) → n < 64) → (n' : ℕ) (ks' hs' : List ℕ) → HeavyPut n k h ks hs n' ks' hs' → Heavies s (i + 1) n' ks' hs'
-  heavies_step room n' ks' hs' A = rw (add-one i) (pick (is_h s i) refl)
-    where
-      test : (b : Bool) → is_h s i ≡ b → eqb k 0 ≡ b
-      test b e = ap (λ (x : ℕ). eqb x 0) ek ∙ e
+  test : (b : Bool) → eqb k 0 ≡ b → is_h s i ≡ b
+  test b e = ap (λ (x : ℕ). eqb x 0) (sym ek) ∙ e
 
-      pick : (b : Bool) → is_h s i ≡ b → Heavies s (suc i) n' ks' hs'
-      pick true e =
-          rw (A.count, A.kinds, A.hydrogens, test true e) (same_places (kept-miss (heavy s) i (rw e)))
-      pick false e =
-          rw (A.count, A.kinds, A.hydrogens, test false e) (new_place (kept-hit (heavy s) i (rw e)) (room (eqb-false _ _ (test false e))))
+  pub heavies_same : eqb k 0 ≡ true → Heavies s (i + 1) n ks hs
+  heavies_same e = rw (add-one i) (same_places (kept-miss (heavy s) i (rw (test true e))))
+
+  pub heavies_more : eqb k 0 ≡ false → n < 64 → Heavies s (i + 1) (n + 1) (set ks n k) (set hs n h)
+  heavies_more e l = rw (add-one i) (new_place (kept-hit (heavy s) i (rw (test false e))) l)
 
 pub heavies_bare : (s : rules.State) (i n : ℕ) (ks hs : List ℕ) → n ≤ 64 → Heavies s i n ks hs → arrays.Tidy (unbonded n ks hs) × BareTo s i (as_molecule (unbonded n ks hs))
 unfolding as_molecule
@@ -110,11 +119,43 @@ module _ (s : rules.State) (t : Tidy s.kinds s.bonds) (m : Room s) where
   bare-small i h =
       omega (arith, heavies_few, kept-count (heavy s) i, kept-count (heavy s) (length s.kinds), count-more (heavy s) i (length s.kinds) h)
 
+pub bare-table : (s : rules.State) (i : ℕ) (t : Table) → t.rows ≡ no_rows → t.n ≤ 64 → Heavies s i t.n t.kinds t.hydrogens → TidyTable t × BareTo s i (molecule_of t)
+bare-table s i t e l B =
+    subst (λ (R : Rows). TidyTable (rowed t R) × BareTo s i (molecule_of (rowed t R))) (sym e) (heavies_bare s i t.n t.kinds t.hydrogens l B)
+
+-- the atom that is read at a place
+pub read-atom : (st : State) → Held st → (p : ℕ) → p < st.n → (r : TextAtom) → get_or st.placed p r ≡ atom_at st p
+read-atom st H p l r = get_or_default st.placed p r no_atom (omega (arith, H.tallied.places, H.tallied.placed_long))
+
+-- the atoms of a state, place by place
+module _ (st : State) (H : Held st) (p n : ℕ) (ks hs : List ℕ) (B : Heavies (view_of st) p n ks hs) where
+  pub few-atoms : p ≤ st.n → n ≤ 64
+  few-atoms l =
+      omega (arith, B.size, bare-small (view_of st) (reached-reader (view_of st) H.reached).tidy (reached-room (view_of st) H.reached) p (omega (arith, view_places st)))
+
+  module _ (l : p < st.n) where
+    pub room-atoms : eqb (atom_at st p).kind 0 ≡ false → n < 64
+    room-atoms e =
+        omega (
+          arith,
+          B.size,
+          bare-room (view_of st) (reached-reader (view_of st) H.reached).tidy (reached-room (view_of st) H.reached) p (omega (arith, view_places st))
+              (λ z. eqb-false _ _ e (sym (view-kind st p l) ∙ z)),
+        )
+
+    pub atoms-same : eqb (atom_at st p).kind 0 ≡ true → Heavies (view_of st) (p + 1) n ks hs
+    atoms-same e =
+        heavies_same (view_of st) p n ks hs B _ _ (sym (view-kind st p l)) (H.tallied.hydrogens_on p (omega (arith, H.tallied.places))) e
+
+    pub atoms-more : eqb (atom_at st p).kind 0 ≡ false → Heavies (view_of st) (p + 1) (n + 1) (set ks n (atom_at st p).kind) (set hs n (atom_at st p).hydrogens)
+    atoms-more e =
+        heavies_more (view_of st) p n ks hs B _ _ (sym (view-kind st p l)) (H.tallied.hydrogens_on p (omega (arith, H.tallied.places))) e (room-atoms e)
+
 -- the numbers by place, one more
-pub numbered_more : (s : rules.State) (l : List ℕ) (p x : ℕ) → p < length l → x ≡ length (heavies_to s p) → ((q : ℕ) → q < p → get_or l q 0 ≡ length (heavies_to s q))
-    → (q : ℕ) → q < p + 1 → get_or (set l p x) q 0 ≡ length (heavies_to s q)
+pub numbered_more : (s : rules.State) (l : List AtomNo) (p : ℕ) (x : AtomNo) → p < length l → x.0 ≡ length (heavies_to s p) → ((q : ℕ) → q < p → number_at l q ≡ length (heavies_to s q))
+    → (q : ℕ) → q < p + 1 → number_at (set l p x) q ≡ length (heavies_to s q)
 numbered_more s l p x h e f q k = pick (ℕ_discrete q p)
   where
-    pick : Dec (q ≡ p) → get_or (set l p x) q 0 ≡ length (heavies_to s q)
-    pick (yes z) = rw z (get_or-set_same l p x 0 h ∙ e)
-    pick (no z) = get_or-set_other l p q x 0 z ∙ f q (omega arith)
+    pick : Dec (q ≡ p) → number_at (set l p x) q ≡ length (heavies_to s q)
+    pick (yes z) = rw z (ap (λ (a : AtomNo). a.0) (get_or-set_same l p x (record { 0 = 0 }) h) ∙ e)
+    pick (no z) = ap (λ (a : AtomNo). a.0) (get_or-set_other l p q x (record { 0 = 0 }) z) ∙ f q (omega arith)

@@ -2,11 +2,11 @@ pub mod NumberLaws
 pub mod ScanLaws
 pub mod ReachedLaws
 pub mod StateLaws
+pub mod ResolvedLaws
 pub mod FaultLaws
 pub mod JudgedLaws
 pub mod AfterLaws
 pub mod ChangeLaws
-pub mod ResolvedLaws
 pub mod ReadLaws
 pub mod FoldLaws
 pub mod LinkLaws

@@ -1,9 +1,9 @@
 -- Folding: the bonds one by one.
 use Prim.Native.Nat.{ℕ, zero, suc, ◌+◌, ◌≤◌, ◌<◌}
-use mathlib.Core.Path.{◌≡◌, refl, sym, ap, subst, ◌∙◌}
+use mathlib.Core.Path.{◌≡◌, refl, sym, ap, ap₂, subst, ◌∙◌}
 use mathlib.Core.List.{List, [], ◌∷◌, ◌++◌, map}
 use mathlib.Core.Bool.{Bool, true, false, cond, not, ◌&&◌, or-true, and-false, and-true}
-use mathlib.Core.Logic.{◌⊎◌, inl, inr, ⊎_elim}
+use mathlib.Core.Logic.{◌⊎◌, inl, inr}
 use native.Mathlib.Nat.{add-zero}
 use native.Mathlib.Numerals.{add-one}
 use native.Mathlib.Omega.{arith}
@@ -28,14 +28,19 @@ use Rattle.lists.proofs.Passed.{count-snoc}
 use Rattle.sling.proofs.Tidy.{Proper, Tidy}
 use Rattle.molecule.proofs.BondLists.{joins-ends}
 use Rattle.sling.proofs.Limits.{Room}
-use Rattle.table.specs.Changes.{bond_of, RowArrays}
+use Rattle.table.specs.declared.rows.Rows.{Rows}
+use Rattle.table.specs.Changes.{bond_of, RoomFor, BondPut}
+use Rattle.table.specs.declared.AtomNo.{AtomNo}
 use Rattle.table.specs.declared.Table.{Table}
 use Rattle.table.specs.View.{arrays_of, TidyTable}
-use Rattle.table.proofs.Halves.{rows_of}
 use Rattle.table.proofs.Joins.{Joinable, Joined, rowed, bond-roomy, bond-joins}
 use Rattle.text.specs.declared.state.State.{State}
-use Rattle.text.specs.Holding.{bond_at, view_of, Held}
-use Rattle.text.specs.Folding.{molecule_of, heavies_to, BareTo, Linkable, Links}
+use Rattle.text.specs.declared.state.TextBond.{TextBond}
+use Rattle.lists.proofs.Booleans.{or_neither}
+use Rattle.text.specs.Changing.{h_between}
+use Rattle.text.specs.Holding as holding
+use Rattle.text.specs.Holding.{no_bond, atom_at, bond_at, view_of, Held, h_bond}
+use Rattle.text.specs.Folding.{molecule_of, heavies_to, BareTo, number_at}
 use Rattle.text.proofs.ReachedLaws.{reached-reader, reached-room}
 use Rattle.text.proofs.StateLaws.{view_places, view-kind, view-bonds}
 use Rattle.text.proofs.FoldLaws.{heavy}
@@ -69,8 +74,8 @@ code_in-none (x ∷ bs) p q h = pick (joins p q x) refl (code_in-none bs p q)
     pick true e ih = absurd (let i = simp e at h in omega arith)
     pick false e ih = rw e (ih (let i = simp e at h in omega arith))
 
-abbrev no_bond : Bond
-no_bond = record { one = 0; two = 0; code = 0 }
+abbrev nothing : Bond
+nothing = record { one = 0; two = 0; code = 0 }
 
 module _ (s : rules.State) where
   abbrev n : ℕ
@@ -124,10 +129,10 @@ module _ (s : rules.State) where
     c = bond_of (number b.one) (number b.two) b.code
 
     proper : Proper s.kinds b
-    proper = all_mem (Proper s.kinds) s.bonds T.proper b (get_or-mem s.bonds k no_bond h)
+    proper = all_mem (Proper s.kinds) s.bonds T.proper b (get_or-mem s.bonds k nothing h)
 
     one_more : take (k + 1) s.bonds ≡ take k s.bonds ++ (b ∷ [])
-    one_more = rw (add-one k) (take-suc s.bonds k no_bond h)
+    one_more = rw (add-one k) (take-suc s.bonds k nothing h)
 
     once : (p q : ℕ) → count (map (joins p q) (take k s.bonds ++ (b ∷ []))) ≤ 1
     once p q = rw (← one_more) (omega (arith, count-part (joins p q) s.bonds (k + 1), T.once p q))
@@ -215,7 +220,7 @@ module _ (s : rules.State) where
 
         room_at : Room s → (x : ℕ) → on x b ≡ true → count (map (λ d. on x d && not (to_h s d)) (take k s.bonds)) < 6
         room_at m x o =
-            omega (arith, m.bonds_at x, count-take (λ d. on x d && not (to_h s d)) s.bonds k no_bond h (rw (o, light)))
+            omega (arith, m.bonds_at x, count-take (λ d. on x d && not (to_h s d)) s.bonds k nothing h (rw (o, light)))
 
         joinable : Room s → Joinable M c
         joinable m =
@@ -239,29 +244,34 @@ module _ (s : rules.State) where
         heavy-by : {p q : ℕ} → p ≡ q → (p ≡ 0 → ⊥) → eqb q 0 ≡ false
         heavy-by e z = ne_eqb _ 0 (λ w. z (e ∙ w))
 
-        pub link_fits : Room s → (kx ≡ 0 → ⊥) → (ky ≡ 0 → ⊥) → Joinable M (bond_of x y m)
-        link_fits r u v = rw (nx, ny, em) (joinable (heavy-by ex u) (heavy-by ey v) r)
-
         -- with an H at an end nothing is to be done, else the bond is to be added
-        pub link_step : {P : Type 0} → ((kx ≡ 0) ⊎ (ky ≡ 0) → LinkedTo (k + 1) M → P)
-            → ((kx ≡ 0 → ⊥) → (ky ≡ 0 → ⊥) → ((M' : Molecule) → Joined M (bond_of x y m) M' → LinkedTo (k + 1) M') → P) → P
-        link_step {P} none some = pick (is_h s b.one) (is_h s b.two) refl refl
-          where
-            pick : (u v : Bool) → is_h s b.one ≡ u → is_h s b.two ≡ v → P
-            pick true v e f = none (inl (ex ∙ eqb-true _ _ e)) (skipped M (rw e) refl)
-            pick false true e f = none (inr (ey ∙ eqb-true _ _ f)) (skipped M (rw (f, or-true)) refl)
-            pick false false e f =
-                some (λ z. eqb-false _ _ e (sym ex ∙ z)) (λ z. eqb-false _ _ f (sym ey ∙ z))
-                (λ M' J. linked e f M' (subst (λ (d : Bond). Joined M d M') (λ i. bond_of (nx i) (ny i) (em i)) J))
+        pub link-skip : h_bond kx ky ≡ true → LinkedTo (k + 1) M
+        link-skip e = skipped M (ap₂ h_bond (sym ex) (sym ey) ∙ e) refl
+
+        module _ (e : h_bond kx ky ≡ false) where
+          e₁ : is_h s b.one ≡ false
+          e₁ = ap (λ (j : ℕ). eqb j 0) (sym ex) ∙ (or_neither _ _ e).0
+
+          e₂ : is_h s b.two ≡ false
+          e₂ = ap (λ (j : ℕ). eqb j 0) (sym ey) ∙ (or_neither _ _ e).1
+
+          pub link_fits : Room s → Joinable M (bond_of x y m)
+          link_fits r = rw (nx, ny, em) (joinable e₁ e₂ r)
+
+          pub link-more : (M' : Molecule) → Joined M (bond_of x y m) M' → LinkedTo (k + 1) M'
+          link-more M' J = linked e₁ e₂ M' (subst (λ (d : Bond). Joined M d M') (λ i. bond_of (nx i) (ny i) (em i)) J)
 
 -- a state's bond, with the numbers of its atoms
-module _ (st : State) (H : Held st) (k : ℕ) (h : k < st.drawn) (x y : ℕ) (ex : x ≡ get_or st.one k 0) (ey : y ≡ get_or st.two k 0)
-    (numbers : List ℕ) (N : (q : ℕ) → q < st.n → get_or numbers q 0 ≡ length (heavies_to (view_of st) q)) where
+module _ (st : State) (H : Held st) (k : ℕ) (h : k < st.drawn) (d : TextBond) (ed : d ≡ get_or st.links k no_bond)
+    (numbers : List AtomNo) (N : (q : ℕ) → q < st.n → number_at numbers q ≡ length (heavies_to (view_of st) q)) where
   abbrev v : rules.State
   v = view_of st
 
-  bond-is : get_or (view_of st).bonds k (record { one = 0; two = 0; code = 0 }) ≡ bond_at st k
-  bond-is = get_or-each st.drawn (bond_at st) k (record { one = 0; two = 0; code = 0 }) h
+  abbrev here : Bond
+  here = get_or (view_of st).bonds k (record { one = 0; two = 0; code = 0 })
+
+  bond-is : here ≡ holding.bond_of d
+  bond-is = get_or-each st.drawn (bond_at st) k (record { one = 0; two = 0; code = 0 }) h ∙ ap holding.bond_of (sym ed)
 
   tidy-view : Tidy (view_of st).kinds (view_of st).bonds
   tidy-view = (reached-reader (view_of st) H.reached).tidy
@@ -269,45 +279,46 @@ module _ (st : State) (H : Held st) (k : ℕ) (h : k < st.drawn) (x y : ℕ) (ex
   later : k < length (view_of st).bonds
   later = omega (arith, view-bonds st)
 
-  x_is : x ≡ (get_or (view_of st).bonds k (record { one = 0; two = 0; code = 0 })).one
-  x_is = ex ∙ ap (λ (d : Bond). d.one) (sym bond-is)
+  one_is : d.one ≡ here.one
+  one_is = ap (λ (e : Bond). e.one) (sym bond-is)
 
-  y_is : y ≡ (get_or (view_of st).bonds k (record { one = 0; two = 0; code = 0 })).two
-  y_is = ey ∙ ap (λ (d : Bond). d.two) (sym bond-is)
+  two_is : d.two ≡ here.two
+  two_is = ap (λ (e : Bond). e.two) (sym bond-is)
 
-  pub low-one : x < st.n
-  low-one = let p = (proper (view_of st) tidy-view k later).one in omega (arith, x_is, view_places st H.tallied)
+  pub low-one : d.one < st.n
+  low-one = let p = (proper (view_of st) tidy-view k later).one in omega (arith, one_is, view_places st)
 
-  pub low-two : y < st.n
-  low-two = let p = (proper (view_of st) tidy-view k later).two in omega (arith, y_is, view_places st H.tallied)
+  pub low-two : d.two < st.n
+  low-two = let p = (proper (view_of st) tidy-view k later).two in omega (arith, two_is, view_places st)
 
-  kind-one : get_or st.kinds x 0 ≡ get_or (view_of st).kinds (get_or (view_of st).bonds k (record { one = 0; two = 0; code = 0 })).one 0
-  kind-one = sym (view-kind st x low-one) ∙ ap (λ (p : ℕ). get_or (view_of st).kinds p 0) x_is
+  kind-one : (atom_at st d.one).kind ≡ get_or (view_of st).kinds here.one 0
+  kind-one = sym (view-kind st d.one low-one) ∙ ap (λ (p : ℕ). get_or (view_of st).kinds p 0) one_is
 
-  kind-two : get_or st.kinds y 0 ≡ get_or (view_of st).kinds (get_or (view_of st).bonds k (record { one = 0; two = 0; code = 0 })).two 0
-  kind-two = sym (view-kind st y low-two) ∙ ap (λ (p : ℕ). get_or (view_of st).kinds p 0) y_is
+  kind-two : (atom_at st d.two).kind ≡ get_or (view_of st).kinds here.two 0
+  kind-two = sym (view-kind st d.two low-two) ∙ ap (λ (p : ℕ). get_or (view_of st).kinds p 0) two_is
 
-  number-one : get_or numbers x 0 ≡ length (heavies_to (view_of st) (get_or (view_of st).bonds k (record { one = 0; two = 0; code = 0 })).one)
-  number-one = N x low-one ∙ ap (λ (p : ℕ). length (heavies_to (view_of st) p)) x_is
+  number-one : number_at numbers d.one ≡ length (heavies_to (view_of st) here.one)
+  number-one = N d.one low-one ∙ ap (λ (p : ℕ). length (heavies_to (view_of st) p)) one_is
 
-  number-two : get_or numbers y 0 ≡ length (heavies_to (view_of st) (get_or (view_of st).bonds k (record { one = 0; two = 0; code = 0 })).two)
-  number-two = N y low-two ∙ ap (λ (p : ℕ). length (heavies_to (view_of st) p)) y_is
+  number-two : number_at numbers d.two ≡ length (heavies_to (view_of st) here.two)
+  number-two = N d.two low-two ∙ ap (λ (p : ℕ). length (heavies_to (view_of st) p)) two_is
 
-  code_is : get_or st.code k 0 ≡ (get_or (view_of st).bonds k (record { one = 0; two = 0; code = 0 })).code
-  code_is = ap (λ (d : Bond). d.code) (sym bond-is)
+  code_is : d.code ≡ here.code
+  code_is = ap (λ (e : Bond). e.code) (sym bond-is)
 
   module _ (t : Table) (T : TidyTable t) (L : LinkedTo (view_of st) k (molecule_of t)) where
-    joins_at : (get_or st.kinds x 0 ≡ 0 → ⊥) → (get_or st.kinds y 0 ≡ 0 → ⊥) → Joinable (molecule_of t) (bond_of (get_or numbers x 0) (get_or numbers y 0) (get_or st.code k 0))
-    joins_at = link_fits (view_of st) tidy-view k later (molecule_of t) L _ _ _ _ _ kind-one kind-two number-one number-two code_is (reached-room (view_of st) H.reached)
+    pub fold-skip : h_between st d.one d.two ≡ true → LinkedTo (view_of st) (k + 1) (molecule_of t)
+    fold-skip = link-skip (view_of st) tidy-view k later (molecule_of t) L _ _ _ _ _ kind-one kind-two number-one number-two code_is
 
-    pub fold_fits : Linkable (rows_of (arrays_of t)) (get_or st.kinds x 0) (get_or st.kinds y 0) (get_or numbers x 0) (get_or numbers y 0)
-    fold_fits u v = bond-roomy (arrays_of t) T (get_or numbers x 0) (get_or numbers y 0) (get_or st.code k 0) (joins_at u v)
+    module _ (e : h_between st d.one d.two ≡ false) where
+      joins_at : Joinable (molecule_of t) (bond_of (number_at numbers d.one) (number_at numbers d.two) d.code)
+      joins_at = link_fits (view_of st) tidy-view k later (molecule_of t) L _ _ _ _ _ kind-one kind-two number-one number-two code_is e (reached-room (view_of st) H.reached)
 
-    pub fold_step : (R : RowArrays) → Links (rows_of (arrays_of t)) (get_or st.kinds x 0) (get_or st.kinds y 0) (get_or numbers x 0) (get_or numbers y 0) (get_or st.code k 0) R
-        → TidyTable (rowed t R) × LinkedTo (view_of st) (k + 1) (molecule_of (rowed t R))
-    fold_step R K =
-        link_step (view_of st) tidy-view k later (molecule_of t) L _ _ _ _ _ kind-one kind-two number-one number-two code_is
-        (λ z l. subst (λ (Q : RowArrays). TidyTable (rowed t Q) × LinkedTo (view_of st) (k + 1) (molecule_of (rowed t Q))) (sym (⊎_elim K.one K.two z)) (T, l))
-        (λ u v f.
-        let w = bond-joins (arrays_of t) T (get_or numbers x 0) (get_or numbers y 0) (get_or st.code k 0) (joins_at u v) R (K.bond u v) in
-        (w.0, f (molecule_of (rowed t R)) w.1))
+      pub fold_fits : RoomFor t.rows (number_at numbers d.one) × RoomFor t.rows (number_at numbers d.two) × (number_at numbers d.one ≡ number_at numbers d.two → ⊥)
+      fold_fits = bond-roomy (arrays_of t) T (number_at numbers d.one) (number_at numbers d.two) d.code joins_at
+
+      pub fold-more : (R : Rows) → BondPut t.rows (number_at numbers d.one) (number_at numbers d.two) d.code R
+          → TidyTable (rowed t R) × LinkedTo (view_of st) (k + 1) (molecule_of (rowed t R))
+      fold-more R K =
+          let w = bond-joins (arrays_of t) T (number_at numbers d.one) (number_at numbers d.two) d.code joins_at R K in
+          (w.0, link-more (view_of st) tidy-view k later (molecule_of t) L _ _ _ _ _ kind-one kind-two number-one number-two code_is e (molecule_of (rowed t R)) w.1)

@@ -6,6 +6,9 @@ use native.Mathlib.Nat.{add-zero}
 use native.Mathlib.Omega.{arith}
 use lib.ListN.{length, drop, drop_of_length-le}
 use lib.Seq.{drop-cons, drop-drop}
+use Rattle.refusal.specs.declared.Refusal.{Refusal}
+use Rattle.refusal.specs.declared.Refusal.TheVariants.{NoAtoms, Malformed, UnknownKind, OverLimit, NotThere, WrongBond, WrongHydrogen, NotConnected, OverAllowance, NoRoom, BrokenLine}
+use Rattle.refusal.specs.Numbers.{number_of}
 use Rattle.sling.specs.Items.{Item}
 use Rattle.sling.specs.Scanned.{Token, tok, got, broken, scan, token, tokens}
 use Rattle.sling.specs.Reading.{State, after}
@@ -38,15 +41,29 @@ module _ (s : List ℕ) (i : ℕ) (h : i < length s) where
     unfolding run
     at_item S = ap (λ (ts : List Token). run ts S) cut
 
-    pub run-fault : (S S' : State) (f : ℕ) → f ≡ item_fault S it → (f ≡ 0 → ⊥) → judged f i S' finished ≡ run (tokens (drop i s) 0 i) S
-    run-fault S S' f q n = other f q n ∙ sym (at_item S)
+    pub run-fault : (S : State) (f : ℕ) → f ≡ item_fault S it → 0 < f → stopped f i ≡ run (tokens (drop i s) 0 i) S
+    run-fault S f q n = other f q n ∙ sym (at_item S)
       where
-        other : (f : ℕ) → f ≡ item_fault S it → (f ≡ 0 → ⊥) → judged f i S' finished ≡ judged (item_fault S it) i (after S it) (run (tokens (drop next s) 0 next))
-        other zero q n = absurd (n refl)
+        other : (f : ℕ) → f ≡ item_fault S it → 0 < f → stopped f i ≡ judged (item_fault S it) i (after S it) (run (tokens (drop next s) 0 next))
+        other zero q n = absurd (omega arith)
         other (suc f) q n = rw (← q)
 
     pub run-next : (S : State) → item_fault S it ≡ 0 → run (tokens (drop next s) 0 next) (after S it) ≡ run (tokens (drop i s) 0 i) S
     run-next S z = sym (at_item S ∙ rw z)
+
+-- a refusal has a number
+pub number-some : (r : Refusal) → 0 < number_of r
+number-some NoAtoms = omega arith
+number-some Malformed = omega arith
+number-some UnknownKind = omega arith
+number-some OverLimit = omega arith
+number-some NotThere = omega arith
+number-some WrongBond = omega arith
+number-some WrongHydrogen = omega arith
+number-some NotConnected = omega arith
+number-some OverAllowance = omega arith
+number-some NoRoom = omega arith
+number-some BrokenLine = omega arith
 
 pub run_end : (s : List ℕ) (i : ℕ) (S : State) → length s ≤ i → finished S ≡ run (tokens (drop i s) 0 i) S
 unfolding run tokens

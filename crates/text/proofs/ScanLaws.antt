@@ -1,5 +1,5 @@
 -- What stands at an offset of a text, by the bytes there: one law for each answer of the code.
-use Prim.Native.Nat.{ℕ, zero, suc, ◌+◌, ◌-◌, ◌≤◌, ◌<◌}
+use Prim.Native.Nat.{ℕ, suc, ◌+◌, ◌-◌, ◌≤◌, ◌<◌}
 use mathlib.Core.Path.{◌≡◌, refl, ap, ◌∙◌}
 use mathlib.Core.List.{List, [], ◌∷◌}
 use mathlib.Core.Bool.{true, false, not, ◌&&◌}
@@ -9,16 +9,15 @@ use lib.ListN.{length, get_or, drop, length-drop, drop_of_length-le}
 use lib.Seq.{drop-cons}
 use lib.Dec.{eqb}
 use borrow.Author.Tests.{lt-ltb, le-ltb, eq-eqb, ne_eqb}
+use Rattle.std.specs.Prelude.{Option, Some, None}
 use Rattle.molecule.specs.Kinds.{kind_of_symbol}
+use Rattle.kinds.specs.Known.{kind_in}
 use Rattle.sling.specs.Items as rule
 use Rattle.sling.specs.Scanned as rules
 use Rattle.sling.specs.Scanned.{is_capital, is_small, mark_of, small_first, number_at, target, bracketed, body, scan}
-use Rattle.text.specs.declared.item.Target.TheVariants.{At, Up}
 use Rattle.text.specs.declared.item.Item.TheVariants.{Atom}
 use Rattle.text.specs.declared.item.Scanned.{Scanned}
-use Rattle.text.specs.declared.item.Scanned.TheVariants.{Got, Broken}
 use Rattle.text.specs.declared.target.Aim.{Aim}
-use Rattle.text.specs.declared.target.Aim.TheVariants.{Found, Astray}
 use Rattle.text.specs.Scanning.{target_of, item_of, aimed_of, behind, scanned_of, Ahead, Sane, Placed, Stepped, Aims, starts_target, reference_of, ring_of, Brackets, Bodies, Scans}
 
 -- the byte at an offset, and what follows it
@@ -26,37 +25,21 @@ here : (s : List ℕ) (at : ℕ) → at < length s → drop at s ≡ get_or s at
 here s at h = drop-cons s at 0 h ∙ rw (add-one at)
 
 module _ (s : List ℕ) (at : ℕ) where
-  pub place_none : number_at (drop at s) ≡ rules.none → Placed s at Astray
-  place_none e = record { is = λ k f. rw e; ahead = tt }
-
-  pub place_found : (v n : ℕ) → 0 < n → number_at (drop at s) ≡ rules.number v n → Placed s at (Found (At (record { 0 = v })) (at + n))
-  place_found v n h e = record { is = λ k f. rw e (ap (λ (x : ℕ). rules.got (f (rule.at v)) (k + x)) (omega arith)); ahead = omega arith }
-
-  pub step_none : number_at (drop at s) ≡ rules.none → Stepped s at Astray
-  step_none e = record { is = λ k f. rw e; ahead = tt }
-
-  pub step_zero : (v n : ℕ) → v ≡ 0 → number_at (drop at s) ≡ rules.number v n → Stepped s at Astray
-  step_zero v n z e = record { is = λ k f. rw (e, z); ahead = tt }
-
-  pub step_found : (v n : ℕ) → (v ≡ 0 → ⊥) → 0 < n → number_at (drop at s) ≡ rules.number v n → Stepped s at (Found (Up v) (at + n))
-  step_found zero n z h e = absurd (z refl)
-  step_found (suc v) n z h e = record { is = λ k f. rw e (ap (λ (x : ℕ). rules.got (f (rule.up (suc v))) (k + x)) (omega arith)); ahead = omega arith }
-
-  pub target-out : length s ≤ at → Aims s at Astray
+  pub target-out : length s ≤ at → Aims s at None
   unfolding target
   target-out h = record { is = λ k f. rw (drop_of_length-le s h); ahead = tt }
 
 -- one byte of the item more stands before
-aimed_later : (at k : ℕ) (f : rule.Target → rule.Item) (r : Aim) → Ahead (at + 1) r → aimed_of at k f r ≡ aimed_of (at + 1) (suc k) f r
-aimed_later at k f (Found t next) h = ap (λ (x : ℕ). rules.got (f (target_of t)) x) (omega arith)
-aimed_later at k f Astray h = refl
+aimed_later : (at k : ℕ) (f : rule.Target → rule.Item) (r : Option Aim) → Ahead (at + 1) r → aimed_of at k f r ≡ aimed_of (at + 1) (suc k) f r
+aimed_later at k f (Some a) h = ap (λ (x : ℕ). rules.got (f (target_of a.target)) x) (omega arith)
+aimed_later at k f None h = refl
 
-ahead-later : (at : ℕ) (r : Aim) → Ahead (at + 1) r → Ahead at r
-ahead-later at (Found t next) h = omega arith
-ahead-later at Astray h = tt
+ahead-later : (at : ℕ) (r : Option Aim) → Ahead (at + 1) r → Ahead at r
+ahead-later at (Some a) h = omega arith
+ahead-later at None h = tt
 
 module _ (s : List ℕ) (at : ℕ) (h : at < length s) where
-  pub target-steps : (r : Aim) → get_or s at 0 ≡ 45 → Stepped s (at + 1) r → Aims s at r
+  pub target-steps : (r : Option Aim) → get_or s at 0 ≡ 45 → Stepped s (at + 1) r → Aims s at r
   unfolding target
   target-steps r e d =
       record {
@@ -64,7 +47,7 @@ module _ (s : List ℕ) (at : ℕ) (h : at < length s) where
         ahead = ahead-later at r d.ahead;
       }
 
-  pub target-place : (r : Aim) → (get_or s at 0 ≡ 45 → ⊥) → Placed s at r → Aims s at r
+  pub target-place : (r : Option Aim) → (get_or s at 0 ≡ 45 → ⊥) → Placed s at r → Aims s at r
   unfolding target
   target-place r n d =
       record { is = λ k f. d.is k f ∙ rw (here s at h, ne_eqb _ _ n); ahead = d.ahead }
@@ -75,25 +58,33 @@ small-out s at h = rw (drop_of_length-le s h)
 pub small-in : (s : List ℕ) (at : ℕ) → at < length s → is_small (get_or s at 0) ≡ small_first (drop at s)
 small-in s at h = rw (here s at h)
 
--- an aim made into an item
-ring-behind : (at k m : ℕ) (a : Aim) → behind at k (ring_of m a) ≡ aimed_of at k (rule.ring m) a
-ring-behind at k m (Found t next) = refl
-ring-behind at k m Astray = refl
+-- an aim, if there is one, made into an item
+abbrev pub reference_in : Option Aim → Option Scanned
+reference_in (Some a) = Some (reference_of a)
+reference_in None = None
 
-ring-sane : (at m : ℕ) (a : Aim) → 0 < m → m ≤ 4 → Ahead (at + 1) a → Sane at (ring_of m a)
-ring-sane at m (Found t next) p q h = (omega arith, p, q)
-ring-sane at m Astray p q h = tt
+abbrev pub ring_in : ℕ → Option Aim → Option Scanned
+ring_in m (Some a) = Some (ring_of m a)
+ring_in m None = None
 
-reference-scanned : (at : ℕ) (a : Aim) → scanned_of at (reference_of a) ≡ aimed_of at 0 rule.reference a
-reference-scanned at (Found t next) = ap (λ (x : ℕ). rules.got (rule.reference (target_of t)) x) (omega arith)
-reference-scanned at Astray = refl
+ring-behind : (at k m : ℕ) (a : Option Aim) → behind at k (ring_in m a) ≡ aimed_of at k (rule.ring m) a
+ring-behind at k m (Some a) = refl
+ring-behind at k m None = refl
 
-reference-sane : (at : ℕ) (a : Aim) → Ahead at a → Sane at (reference_of a)
-reference-sane at (Found t next) h = (h, omega arith, omega arith)
-reference-sane at Astray h = tt
+ring-sane : (at m : ℕ) (a : Option Aim) → 0 < m → m ≤ 4 → Ahead (at + 1) a → Sane at (ring_in m a)
+ring-sane at m (Some a) p q h = (omega arith, p, q)
+ring-sane at m None p q h = tt
+
+reference-scanned : (at : ℕ) (a : Option Aim) → scanned_of at (reference_in a) ≡ aimed_of at 0 rule.reference a
+reference-scanned at (Some a) = ap (λ (x : ℕ). rules.got (rule.reference (target_of a.target)) x) (omega arith)
+reference-scanned at None = refl
+
+reference-sane : (at : ℕ) (a : Option Aim) → Ahead at a → Sane at (reference_in a)
+reference-sane at (Some a) h = (h, omega arith, omega arith)
+reference-sane at None h = tt
 
 module _ (s : List ℕ) (at m : ℕ) (p : 0 < m) (q : m ≤ 4) where
-  pub bracket_short : at < length s → length s - at ≤ 3 → Brackets s at m Broken
+  pub bracket_short : at < length s → length s - at ≤ 3 → Brackets s at m None
   unfolding bracketed
   bracket_short h k = record { is = λ j. pick (drop (at + 1) s) j few; sane = tt }
     where
@@ -117,12 +108,12 @@ module _ (s : List ℕ) (at m : ℕ) (p : 0 < m) (q : m ≤ 4) where
         let g : at + 3 + 1 ≡ at + 4 = omega arith in
         a ∙ rw (e, b, f, c, g)
 
-    pub bracket_bad : (is_capital (get_or s (at + 1) 0) && is_small (get_or s (at + 2) 0) && eqb (get_or s (at + 3) 0) 41) ≡ false → Brackets s at m Broken
+    pub bracket_bad : (is_capital (get_or s (at + 1) 0) && is_small (get_or s (at + 2) 0) && eqb (get_or s (at + 3) 0) 41) ≡ false → Brackets s at m None
     unfolding bracketed
     bracket_bad e = record { is = λ k. rw (three, e); sane = tt }
 
-    pub bracket_good : (kind : ℕ) → kind ≡ kind_of_symbol (get_or s (at + 1) 0 ∷ get_or s (at + 2) 0 ∷ [])
-        → (is_capital (get_or s (at + 1) 0) && is_small (get_or s (at + 2) 0) && eqb (get_or s (at + 3) 0) 41) ≡ true → Brackets s at m (Got (Atom m kind) (at + 4))
+    pub bracket_good : (kind : Option ℕ) → kind_in kind ≡ kind_of_symbol (get_or s (at + 1) 0 ∷ get_or s (at + 2) 0 ∷ [])
+        → (is_capital (get_or s (at + 1) 0) && is_small (get_or s (at + 2) 0) && eqb (get_or s (at + 3) 0) 41) ≡ true → Brackets s at m (Some (record { item = Atom m kind; next = at + 4 }))
     unfolding bracketed
     bracket_good kind w e =
         record {
@@ -130,12 +121,12 @@ module _ (s : List ℕ) (at m : ℕ) (p : 0 < m) (q : m ≤ 4) where
           sane = (omega arith, p, q);
         }
 
-  pub body-out : length s ≤ at → Bodies s at m Broken
+  pub body-out : length s ≤ at → Bodies s at m None
   unfolding body
   body-out h = record { is = λ k. rw (drop_of_length-le s h); sane = tt }
 
   module _ (h : at < length s) where
-    pub body-ring : (a : Aim) → get_or s at 0 ≡ 47 → Aims s (at + 1) a → Bodies s at m (ring_of m a)
+    pub body-ring : (a : Option Aim) → get_or s at 0 ≡ 47 → Aims s (at + 1) a → Bodies s at m (ring_in m a)
     unfolding body
     body-ring a e d =
         record {
@@ -143,16 +134,16 @@ module _ (s : List ℕ) (at m : ℕ) (p : 0 < m) (q : m ≤ 4) where
           sane = ring-sane at m a p q d.ahead;
         }
 
-    pub body-bracket : (r : Scanned) → (get_or s at 0 ≡ 47 → ⊥) → get_or s at 0 ≡ 40 → Brackets s at m r → Bodies s at m r
+    pub body-bracket : (r : Option Scanned) → (get_or s at 0 ≡ 47 → ⊥) → get_or s at 0 ≡ 40 → Brackets s at m r → Bodies s at m r
     unfolding body
     body-bracket r n e d = record { is = λ k. d.is k ∙ rw (here s at h, ne_eqb _ _ n, eq-eqb _ _ e); sane = d.sane }
 
-    pub body-bad : (get_or s at 0 ≡ 47 → ⊥) → (get_or s at 0 ≡ 40 → ⊥) → (is_capital (get_or s at 0) && not (small_first (drop (at + 1) s))) ≡ false → Bodies s at m Broken
+    pub body-bad : (get_or s at 0 ≡ 47 → ⊥) → (get_or s at 0 ≡ 40 → ⊥) → (is_capital (get_or s at 0) && not (small_first (drop (at + 1) s))) ≡ false → Bodies s at m None
     unfolding body
     body-bad n o e = record { is = λ k. rw (here s at h, ne_eqb _ _ n, ne_eqb _ _ o, e); sane = tt }
 
-    pub body-letter : (kind : ℕ) → (get_or s at 0 ≡ 47 → ⊥) → (get_or s at 0 ≡ 40 → ⊥) → (is_capital (get_or s at 0) && not (small_first (drop (at + 1) s))) ≡ true
-        → kind ≡ kind_of_symbol (get_or s at 0 ∷ []) → Bodies s at m (Got (Atom m kind) (at + 1))
+    pub body-letter : (kind : Option ℕ) → (get_or s at 0 ≡ 47 → ⊥) → (get_or s at 0 ≡ 40 → ⊥) → (is_capital (get_or s at 0) && not (small_first (drop (at + 1) s))) ≡ true
+        → kind_in kind ≡ kind_of_symbol (get_or s at 0 ∷ []) → Bodies s at m (Some (record { item = Atom m kind; next = at + 1 }))
     unfolding body
     body-letter kind n o e w =
         record {
@@ -160,23 +151,23 @@ module _ (s : List ℕ) (at m : ℕ) (p : 0 < m) (q : m ≤ 4) where
           sane = (omega arith, p, q);
         }
 
-behind-later : (at : ℕ) (r : Scanned) → Sane (at + 1) r → scanned_of at r ≡ behind (at + 1) 1 r
-behind-later at (Got i next) h = ap (λ (x : ℕ). rules.got (item_of i) x) (omega (arith, h.0))
-behind-later at Broken h = refl
+behind-later : (at : ℕ) (r : Option Scanned) → Sane (at + 1) r → scanned_of at r ≡ behind (at + 1) 1 r
+behind-later at (Some a) h = ap (λ (x : ℕ). rules.got (item_of a.item) x) (omega (arith, h.0))
+behind-later at None h = refl
 
-behind-none : (at : ℕ) (r : Scanned) → scanned_of at r ≡ behind at 0 r
-behind-none at (Got i next) = ap (λ (x : ℕ). rules.got (item_of i) x) (omega arith)
-behind-none at Broken = refl
+behind-none : (at : ℕ) (r : Option Scanned) → scanned_of at r ≡ behind at 0 r
+behind-none at (Some a) = ap (λ (x : ℕ). rules.got (item_of a.item) x) (omega arith)
+behind-none at None = refl
 
-sane-later : (at : ℕ) (r : Scanned) → Sane (at + 1) r → Sane at r
-sane-later at (Got i next) h = (omega (arith, h.0), h.1, h.2)
-sane-later at Broken h = tt
+sane-later : (at : ℕ) (r : Option Scanned) → Sane (at + 1) r → Sane at r
+sane-later at (Some a) h = (omega (arith, h.0), h.1, h.2)
+sane-later at None h = tt
 
-scanned_later : (at : ℕ) (a : Aim) → Ahead (at + 1) a → scanned_of at (reference_of a) ≡ aimed_of (at + 1) 1 rule.reference a
+scanned_later : (at : ℕ) (a : Option Aim) → Ahead (at + 1) a → scanned_of at (reference_in a) ≡ aimed_of (at + 1) 1 rule.reference a
 scanned_later at a h = reference-scanned at a ∙ aimed_later at 0 rule.reference a h
 
 module _ (s : List ℕ) (at : ℕ) (h : at < length s) where
-  pub scan-marked : (m : ℕ) (r : Scanned) → m ≡ mark_of (get_or s at 0) → 1 < m → Bodies s (at + 1) m r → Scans s at r
+  pub scan-marked : (m : ℕ) (r : Option Scanned) → m ≡ mark_of (get_or s at 0) → 1 < m → Bodies s (at + 1) m r → Scans s at r
   unfolding scan
   scan-marked m r e l d =
       record {
@@ -185,7 +176,7 @@ module _ (s : List ℕ) (at : ℕ) (h : at < length s) where
       }
 
   module _ (plain : mark_of (get_or s at 0) ≤ 1) where
-    pub scan-plus : (a : Aim) → get_or s at 0 ≡ 43 → Placed s (at + 1) a → Scans s at (reference_of a)
+    pub scan-plus : (a : Option Aim) → get_or s at 0 ≡ 43 → Placed s (at + 1) a → Scans s at (reference_in a)
     unfolding scan
     scan-plus a e d =
         record {
@@ -193,7 +184,7 @@ module _ (s : List ℕ) (at : ℕ) (h : at < length s) where
           sane = reference-sane at a (ahead-later at a d.ahead);
         }
 
-    pub scan-target : (a : Aim) → (get_or s at 0 ≡ 43 → ⊥) → starts_target (get_or s at 0) ≡ true → Aims s at a → Scans s at (reference_of a)
+    pub scan-target : (a : Option Aim) → (get_or s at 0 ≡ 43 → ⊥) → starts_target (get_or s at 0) ≡ true → Aims s at a → Scans s at (reference_in a)
     unfolding scan
     scan-target a n e d =
         record {
@@ -201,7 +192,7 @@ module _ (s : List ℕ) (at : ℕ) (h : at < length s) where
           sane = reference-sane at a d.ahead;
         }
 
-    pub scan-body : (r : Scanned) → (get_or s at 0 ≡ 43 → ⊥) → starts_target (get_or s at 0) ≡ false → Bodies s at 1 r → Scans s at r
+    pub scan-body : (r : Option Scanned) → (get_or s at 0 ≡ 43 → ⊥) → starts_target (get_or s at 0) ≡ false → Bodies s at 1 r → Scans s at r
     unfolding scan
     scan-body r n e d =
         record {

@@ -1,230 +1,300 @@
 -- The changes of a state, in the rules' terms.
 use Prim.Native.Nat.{ℕ, zero, suc, ◌+◌, ◌-◌, ◌≤◌, ◌<◌}
 use mathlib.Core.Path.{◌≡◌, refl, sym, ap, ap₂, ◌∙◌}
-use mathlib.Core.List.{List, [], ◌∷◌, ◌++◌}
-use mathlib.Core.Bool.{Bool, true, false, cond, not, ◌&&◌, ◌||◌, or-true}
+use mathlib.Core.List.{List, [], ◌∷◌, ◌++◌, map}
+use mathlib.Core.Bool.{Bool, true, false, cond, not, ◌&&◌, ◌||◌, and-true, and-false}
 use native.Mathlib.Decide.{ℕ_discrete}
 use native.Mathlib.Nat.{add-zero}
 use native.Mathlib.Numerals.{add-one}
 use native.Mathlib.Omega.{arith}
-use lib.ListN.{length, get_or, take, set, length-set, replicate, length-replicate, get_or-append}
-use lib.Seq.{take-suc-set, get_or-set_same, get_or-set_other, get_or-take, length-take-le}
+use lib.ListN.{length, get_or, length-set, replicate, length-replicate, get_or-append}
+use lib.Seq.{get_or-set_same, get_or-set_other}
 use lib.Dec.{eqb}
-use borrow.Author.Tests.{eqb-true, eqb-false}
+use borrow.Author.Tests.{eqb-true, eq-eqb, ne_eqb}
 use Rattle.lists.specs.Upto.{each}
 use Rattle.lists.specs.Tests.{count}
-use Rattle.lists.proofs.Upto.{each-eq, length-each}
+use Rattle.lists.proofs.Upto.{each-eq, length-each, get_or-each}
 use Rattle.lists.proofs.Steps.{each-zero, each_next}
 use Rattle.molecule.specs.Bonds.{Bond, on}
 use Rattle.sling.specs.Reading as rules
 use Rattle.sling.specs.Reading.{to_h, drawn, hydrogens_on, bonds_on}
 use Rattle.sling.specs.Faults.{heavy_atoms, hydrogen_atoms, heavy_bonds}
-use Rattle.lists.proofs.All.{map-all}
+use Rattle.sling.specs.Folded.{lone_h}
+use Rattle.lists.proofs.All.{map-all, count-all_none}
 use Rattle.lists.proofs.Passed.{count-snoc}
 use Rattle.sling.proofs.Tidy.{Reader, Proper}
+use Rattle.text.specs.declared.item.Place.{Place}
+use Rattle.text.specs.declared.state.TextAtom.{TextAtom}
+use Rattle.text.specs.declared.state.TextBond.{TextBond}
 use Rattle.text.specs.declared.state.State.{State}
-use Rattle.text.specs.Holding.{bond_at, view_of, Tallied, Held, bit, h_bit, h_bond, grown_by, bonded_by, Drawable}
+use Rattle.text.specs.Holding.{no_atom, no_bond, atom_at, bond_of, bond_at, view_of, Tallied, Held, bit, grown_by, moved_to, bonded_by, Drawable}
+use Rattle.text.specs.Changing.{moved, fresh, grown, raised, raised_at, h_between, bonded}
 use Rattle.text.proofs.ReachedLaws.{reached-start, reached-reader}
 
 state_eq : {k k' u u' : List ℕ} {b b' : List Bond} {c c' : ℕ} → k ≡ k' → u ≡ u' → b ≡ b' → c ≡ c'
     → ◌≡◌ {A = rules.State} (record { kinds = k; ups = u; bonds = b; cursor = c }) (record { kinds = k'; ups = u'; bonds = b'; cursor = c' })
 state_eq p q r s = λ i. record { kinds = p i; ups = q i; bonds = r i; cursor = s i }
 
--- an array with one element more in use
-pushed : (l : List ℕ) (n x y w : ℕ) → length l ≡ w → n < w → x ≡ y → take (n + 1) (set l n x) ≡ take n l ++ (y ∷ [])
-pushed l n x y w e h q = rw (add-one n, ← q) (take-suc-set l n x (omega arith))
+-- what is said of each place below n, and of one more
+each_more : {A : Type 0} (n : ℕ) (f f' : ℕ → A) (x : A) → ((p : ℕ) → p < n → f' p ≡ f p) → f' n ≡ x → each (n + 1) f' ≡ each n f ++ (x ∷ [])
+each_more {A} n f f' x e q =
+    ap (λ (m : ℕ). each m f') (add-one n) ∙ each_next n f' ∙ ap₂ (λ (l : List A) (y : A). l ++ (y ∷ [])) (each-eq n f' f e) q
+
+pub view_places : (st : State) → length (view_of st).kinds ≡ st.n
+view_places st = length-each st.n (λ p. (atom_at st p).kind)
+
+pub view-kind : (st : State) (p : ℕ) → p < st.n → get_or (view_of st).kinds p 0 ≡ (atom_at st p).kind
+view-kind st p h = get_or-each st.n (λ p. (atom_at st p).kind) p 0 h
+
+pub view-up : (st : State) (p : ℕ) → p < st.n → get_or (view_of st).ups p 0 ≡ (atom_at st p).up
+view-up st p h = get_or-each st.n (λ p. (atom_at st p).up) p 0 h
+
+pub view-bonds : (st : State) → length (view_of st).bonds ≡ st.drawn
+view-bonds st = length-each st.drawn (bond_at st)
 
 -- a new atom has no bonds yet, and the bonds that there are do not see it
-module _ (s : rules.State) (k : ℕ) (r : Reader s) where
-  pub grown_to_h : (b : Bond) → Proper s.kinds b → to_h (grown_by s k) b ≡ to_h s b
-  grown_to_h b g = rw (get_or-append s.kinds (k ∷ []) 0 b.one g.one, get_or-append s.kinds (k ∷ []) 0 b.two g.two)
+module _ (s : rules.State) (r : Reader s) where
+  pub none-at : (f : Bond → Bool) → count (map (λ b. on (length s.kinds) b && f b) s.bonds) ≡ 0
+  none-at f =
+      count-all_none (λ b. on (length s.kinds) b && f b)
+      (λ b x. rw (ne_eqb b.one (length s.kinds) (λ e. omega (arith, x.one)), ne_eqb b.two (length s.kinds) (λ e. omega (arith, x.two)))) s.bonds r.tidy.proper
 
-  pub grown_hydrogens_on : (p : ℕ) → hydrogens_on (grown_by s k) p ≡ hydrogens_on s p
-  grown_hydrogens_on p = ap count (map-all _ _ (λ b g. ap (λ (x : Bool). on p b && x) (grown_to_h b g)) s.bonds r.tidy.proper)
+  module _ (k : ℕ) where
+    pub grown_to_h : (b : Bond) → Proper s.kinds b → to_h (grown_by s k) b ≡ to_h s b
+    grown_to_h b g = rw (get_or-append s.kinds (k ∷ []) 0 b.one g.one, get_or-append s.kinds (k ∷ []) 0 b.two g.two)
 
-  pub grown_bonds_on : (p : ℕ) → bonds_on (grown_by s k) p ≡ bonds_on s p
-  grown_bonds_on p = ap count (map-all _ _ (λ b g. ap (λ (x : Bool). on p b && not x) (grown_to_h b g)) s.bonds r.tidy.proper)
+    pub grown_hydrogens_on : (p : ℕ) → hydrogens_on (grown_by s k) p ≡ hydrogens_on s p
+    grown_hydrogens_on p = ap count (map-all _ _ (λ b g. ap (λ (x : Bool). on p b && x) (grown_to_h b g)) s.bonds r.tidy.proper)
 
-  pub grown_heavy_bonds : heavy_bonds (grown_by s k) ≡ heavy_bonds s
-  grown_heavy_bonds = ap count (map-all _ _ (λ b g. ap not (grown_to_h b g)) s.bonds r.tidy.proper)
+    pub grown_bonds_on : (p : ℕ) → bonds_on (grown_by s k) p ≡ bonds_on s p
+    grown_bonds_on p = ap count (map-all _ _ (λ b g. ap (λ (x : Bool). on p b && not x) (grown_to_h b g)) s.bonds r.tidy.proper)
 
-abbrev grew : State → ℕ → ℕ → ℕ → State
-grew st k u h =
-    record {
-      kinds = set st.kinds st.n k;
-      ups = set st.ups st.n u;
-      one = st.one;
-      two = st.two;
-      code = st.code;
-      hydrogens = st.hydrogens;
-      degrees = st.degrees;
-      n = st.n + 1;
-      drawn = st.drawn;
-      atoms = st.atoms + 1 - h;
-      total = st.total + h;
-      bonds = st.bonds;
-      cursor = st.cursor;
-    }
+    pub grown_heavy_bonds : heavy_bonds (grown_by s k) ≡ heavy_bonds s
+    grown_heavy_bonds = ap count (map-all _ _ (λ b g. ap not (grown_to_h b g)) s.bonds r.tidy.proper)
 
 pub bit_not : (b : Bool) → bit (not b) + bit b ≡ 1
 bit_not true = refl
 bit_not false = refl
 
-module _ (st : State) (k u h : ℕ) (H : Held st) (room : st.n < 192) (eu : u ≡ st.cursor.0) (eh : h ≡ bit (h_bit k)) where
+module _ (st : State) (k : ℕ) (H : Held st) (room : st.n < 192) where
   t : Tallied st
   t = H.tallied
 
-  grown_view : view_of (grew st k u h) ≡ grown_by (view_of st) k
-  grown_view = state_eq (pushed st.kinds st.n k k 192 t.kinds_long room refl) (pushed st.ups st.n u st.cursor.0 192 t.ups_long room eu) refl refl
+  r : Reader (view_of st)
+  r = reached-reader (view_of st) H.reached
 
-  grown_attached : (p : ℕ) → get_or (set st.ups st.n u) p 0 ≤ p
+  last : atom_at (grown k st) st.n ≡ fresh k st.cursor.0
+  last = get_or-set_same st.placed st.n (fresh k st.cursor.0) no_atom (omega (arith, t.placed_long))
+
+  old : (p : ℕ) → (p ≡ st.n → ⊥) → atom_at (grown k st) p ≡ atom_at st p
+  old p n = get_or-set_other st.placed st.n p (fresh k st.cursor.0) no_atom n
+
+  grown_view : view_of (grown k st) ≡ grown_by (view_of st) k
+  grown_view =
+      state_eq (each_more st.n (λ p. (atom_at st p).kind) (λ p. (atom_at (grown k st) p).kind) k (λ p l. ap (λ (a : TextAtom). a.kind) (old p (λ e. omega arith))) (ap (λ (a : TextAtom). a.kind) last))
+      (each_more st.n (λ p. (atom_at st p).up) (λ p. (atom_at (grown k st) p).up) st.cursor.0 (λ p l. ap (λ (a : TextAtom). a.up) (old p (λ e. omega arith))) (ap (λ (a : TextAtom). a.up) last))
+      refl refl
+
+  grown_attached : (p : ℕ) → (atom_at (grown k st) p).up ≤ p
   grown_attached p = pick (ℕ_discrete p st.n)
     where
-      pick : Dec (p ≡ st.n) → get_or (set st.ups st.n u) p 0 ≤ p
-      pick (yes e) = rw (e, get_or-set_same st.ups st.n u 0 (omega (arith, t.ups_long))) (omega (arith, t.cursor))
-      pick (no e) = rw (get_or-set_other st.ups st.n p u 0 e) (t.attached p)
+      pick : Dec (p ≡ st.n) → (atom_at (grown k st) p).up ≤ p
+      pick (yes e) = rw (e, last) t.cursor
+      pick (no e) = rw (old p e) (t.attached p)
 
-  pub grown_held : (view_of (grew st k u h) ≡ grown_by (view_of st) k) × Tallied (grew st k u h)
-  grown_held =
-      let r = reached-reader (view_of st) H.reached in (
-        grown_view,
-        record {
-          places = omega arith;
-          drawn = t.drawn;
-          kinds_long = length-set st.kinds st.n k ∙ t.kinds_long;
-          ups_long = length-set st.ups st.n u ∙ t.ups_long;
-          one_long = t.one_long;
-          two_long = t.two_long;
-          code_long = t.code_long;
-          hydrogens_long = t.hydrogens_long;
-          degrees_long = t.degrees_long;
-          attached = grown_attached;
-          cursor = omega (arith, t.cursor);
-          heavy_atoms = omega (arith, t.heavy_atoms, ap heavy_atoms grown_view, count-snoc (λ x. not (eqb x 0)) (view_of st).kinds k, bit_not (h_bit k));
-          hydrogen_atoms = omega (arith, t.hydrogen_atoms, ap hydrogen_atoms grown_view, count-snoc (λ x. eqb x 0) (view_of st).kinds k);
-          heavy_bonds = t.heavy_bonds ∙ sym (ap heavy_bonds grown_view ∙ grown_heavy_bonds (view_of st) k r);
-          hydrogens_on = λ p l. t.hydrogens_on p l ∙ sym (ap (λ (s : rules.State). hydrogens_on s p) grown_view ∙ grown_hydrogens_on (view_of st) k r p);
-          bonds_on = λ p l. t.bonds_on p l ∙ sym (ap (λ (s : rules.State). bonds_on s p) grown_view ∙ grown_bonds_on (view_of st) k r p);
-        },
-      )
+  none-here : (f : Bond → Bool) → count (map (λ b. on st.n b && f b) (view_of st).bonds) ≡ 0
+  none-here f = ap (λ (n : ℕ). count (map (λ b. on n b && f b) (view_of st).bonds)) (sym (view_places st)) ∙ none-at (view_of st) r f
 
--- two counts raised by one and the same
-raised : (l : List ℕ) (c p v q : ℕ) → (c ≡ p → ⊥) → c < length l → p < length l
-    → get_or (set (set l c (get_or l c 0 + v)) p (get_or (set l c (get_or l c 0 + v)) p 0 + v)) q 0 ≡ get_or l q 0 + cond (eqb c q || eqb p q) v 0
-raised l c p v q ne hc hp = pick (eqb c q) (eqb p q) refl refl
-  where
-    l' : List ℕ
-    l' = set l c (get_or l c 0 + v)
+  grown_hydrogens : (p : ℕ) → p < 192 → (atom_at (grown k st) p).hydrogens ≡ hydrogens_on (view_of st) p
+  grown_hydrogens p l = pick (ℕ_discrete p st.n)
+    where
+      pick : Dec (p ≡ st.n) → (atom_at (grown k st) p).hydrogens ≡ hydrogens_on (view_of st) p
+      pick (yes e) = rw (e, last) (sym (none-here (to_h (view_of st))))
+      pick (no e) = rw (old p e) (t.hydrogens_on p l)
 
-    long : p < length l'
-    long = rw (length-set l c (get_or l c 0 + v)) hp
+  grown_bonds : (p : ℕ) → p < 192 → (atom_at (grown k st) p).bonds ≡ bonds_on (view_of st) p
+  grown_bonds p l = pick (ℕ_discrete p st.n)
+    where
+      pick : Dec (p ≡ st.n) → (atom_at (grown k st) p).bonds ≡ bonds_on (view_of st) p
+      pick (yes e) = rw (e, last) (sym (none-here (λ b. not (to_h (view_of st) b))))
+      pick (no e) = rw (old p e) (t.bonds_on p l)
 
-    apart : (x y : ℕ) → (x ≡ y → ⊥) → y ≡ x → ⊥
-    apart x y n e = n (sym e)
-
-    other : get_or l' p 0 ≡ get_or l p 0
-    other = get_or-set_other l c p (get_or l c 0 + v) 0 (apart c p ne)
-
-    pick : (x y : Bool) → eqb c q ≡ x → eqb p q ≡ y → get_or (set l' p (get_or l' p 0 + v)) q 0 ≡ get_or l q 0 + cond (eqb c q || eqb p q) v 0
-    pick x true e f =
-        let z : p ≡ q = eqb-true p q f in
-        rw (f, or-true, ← z) (get_or-set_same l' p (get_or l' p 0 + v) 0 long ∙ ap (λ (y : ℕ). y + v) other)
-    pick true false e f =
-        let z : c ≡ q = eqb-true c q e in
-        get_or-set_other l' p q (get_or l' p 0 + v) 0 (apart p q (eqb-false p q f)) ∙ rw (e, ← z) (get_or-set_same l c (get_or l c 0 + v) 0 hc)
-    pick false false e f =
-        get_or-set_other l' p q (get_or l' p 0 + v) 0 (apart p q (eqb-false p q f)) ∙ get_or-set_other l c q (get_or l c 0 + v) 0 (apart c q (eqb-false c q e)) ∙ rw (e, f, add-zero (get_or l q 0))
-
-abbrev joined : State → (p m a b h w : ℕ) → State
-joined st p m a b h w =
+  pub grown_held : (view_of (grown k st) ≡ grown_by (view_of st) k) × Tallied (grown k st)
+  grown_held = (
+    grown_view,
     record {
-      kinds = st.kinds;
-      ups = st.ups;
-      one = set st.one st.drawn a;
-      two = set st.two st.drawn b;
-      code = set st.code st.drawn m;
-      hydrogens = set (set st.hydrogens st.cursor.0 (get_or st.hydrogens st.cursor.0 0 + h)) p
-          (get_or (set st.hydrogens st.cursor.0 (get_or st.hydrogens st.cursor.0 0 + h)) p 0 + h);
-      degrees = set (set st.degrees st.cursor.0 (get_or st.degrees st.cursor.0 0 + (1 - h))) p
-          (get_or (set st.degrees st.cursor.0 (get_or st.degrees st.cursor.0 0 + (1 - h))) p 0 + (1 - h));
-      n = st.n;
-      drawn = st.drawn + 1;
-      atoms = st.atoms;
-      total = st.total;
-      bonds = st.bonds + w;
-      cursor = record { 0 = p };
-    }
+      places = omega arith;
+      drawn = t.drawn;
+      placed_long = length-set st.placed st.n (fresh k st.cursor.0) ∙ t.placed_long;
+      links_long = t.links_long;
+      attached = grown_attached;
+      cursor = omega (arith, t.cursor);
+      heavy_atoms = omega (arith, t.heavy_atoms, ap heavy_atoms grown_view, count-snoc (λ x. not (eqb x 0)) (view_of st).kinds k);
+      hydrogen_atoms = omega (arith, t.hydrogen_atoms, ap hydrogen_atoms grown_view, count-snoc (λ x. eqb x 0) (view_of st).kinds k);
+      heavy_bonds = t.heavy_bonds ∙ sym (ap heavy_bonds grown_view ∙ grown_heavy_bonds (view_of st) r k);
+      hydrogens_on = λ p l. grown_hydrogens p l ∙ sym (ap (λ (s : rules.State). hydrogens_on s p) grown_view ∙ grown_hydrogens_on (view_of st) r k p);
+      bonds_on = λ p l. grown_bonds p l ∙ sym (ap (λ (s : rules.State). bonds_on s p) grown_view ∙ grown_bonds_on (view_of st) r k p);
+    },
+  )
+
+-- an atom with a bond more
+module _ (h : Bool) (p : ℕ) (st : State) (there : p < length st.placed) (q : ℕ) where
+  raised-atom : atom_at (raised_at h p st) q ≡ cond (eqb p q) (raised h (atom_at st q)) (atom_at st q)
+  raised-atom = pick (ℕ_discrete q p)
+    where
+      pick : Dec (q ≡ p) → atom_at (raised_at h p st) q ≡ cond (eqb p q) (raised h (atom_at st q)) (atom_at st q)
+      pick (yes e) = rw (e, eq-eqb p p refl) (get_or-set_same st.placed p (raised h (atom_at st p)) no_atom there)
+      pick (no e) = rw (ne_eqb p q (λ z. e (sym z))) (get_or-set_other st.placed p q (raised h (atom_at st p)) no_atom e)
+
+  raised-kind : (atom_at (raised_at h p st) q).kind ≡ (atom_at st q).kind
+  raised-kind = ap (λ (a : TextAtom). a.kind) raised-atom ∙ pick (eqb p q)
+    where
+      pick : (b : Bool) → (cond b (raised h (atom_at st q)) (atom_at st q)).kind ≡ (atom_at st q).kind
+      pick true = refl
+      pick false = refl
+
+  raised-up : (atom_at (raised_at h p st) q).up ≡ (atom_at st q).up
+  raised-up = ap (λ (a : TextAtom). a.up) raised-atom ∙ pick (eqb p q)
+    where
+      pick : (b : Bool) → (cond b (raised h (atom_at st q)) (atom_at st q)).up ≡ (atom_at st q).up
+      pick true = refl
+      pick false = refl
+
+  raised-hydrogens : (atom_at (raised_at h p st) q).hydrogens ≡ (atom_at st q).hydrogens + cond (eqb p q) (bit h) 0
+  raised-hydrogens = ap (λ (a : TextAtom). a.hydrogens) raised-atom ∙ pick (eqb p q)
+    where
+      pick : (b : Bool) → (cond b (raised h (atom_at st q)) (atom_at st q)).hydrogens ≡ (atom_at st q).hydrogens + cond b (bit h) 0
+      pick true = refl
+      pick false = sym (add-zero _)
+
+  raised-bonds : (atom_at (raised_at h p st) q).bonds ≡ (atom_at st q).bonds + cond (eqb p q) (bit (not h)) 0
+  raised-bonds = ap (λ (a : TextAtom). a.bonds) raised-atom ∙ pick (eqb p q)
+    where
+      pick : (b : Bool) → (cond b (raised h (atom_at st q)) (atom_at st q)).bonds ≡ (atom_at st q).bonds + cond b (bit (not h)) 0
+      pick true = refl
+      pick false = sym (add-zero _)
+
+-- what is added at two places is added where one of them is
+at_either : (x y : Bool) (v n : ℕ) → (x ≡ true → y ≡ true → ⊥) → n + cond x v 0 + cond y v 0 ≡ n + cond (x || y) v 0
+at_either true true v n e = absurd (e refl refl)
+at_either true false v n e = add-zero _
+at_either false y v n e = ap (λ (m : ℕ). m + cond y v 0) (add-zero n)
 
 bit_and : (x y : Bool) → cond x (bit y) 0 ≡ bit (x && y)
 bit_and true y = refl
 bit_and false y = refl
 
-module _ (st : State) (p m a b h w : ℕ) (T : Tallied st) (D : Drawable st p) (ea : a ≡ st.cursor.0) (eb : b ≡ p)
-    (eh : h ≡ bit (h_bond (get_or st.kinds st.cursor.0 0) (get_or st.kinds p 0))) (ew : w ≡ 1 - h) where
+module _ (st : State) (to : Place) (m : ℕ) (T : Tallied st) (D : Drawable st to.0) where
+  abbrev c : ℕ
+  c = st.cursor.0
+
+  abbrev p : ℕ
+  p = to.0
+
+  abbrev h : Bool
+  h = h_between st st.cursor.0 to.0
+
   abbrev new : Bond
-  new = record { one = st.cursor.0; two = p; code = m }
+  new = record { one = st.cursor.0; two = to.0; code = m }
 
-  joined-bonds : each (st.drawn + 1) (bond_at (joined st p m a b h w)) ≡ drawn (view_of st) p m
-  joined-bonds =
-      ap (λ (n : ℕ). each n (bond_at (joined st p m a b h w))) (add-one st.drawn) ∙ each_next st.drawn (bond_at (joined st p m a b h w))
-      ∙ ap₂ (λ (l : List Bond) (x : Bond). l ++ (x ∷ [])) (each-eq st.drawn _ (bond_at st) (λ j l. old j l)) last
-    where
-      old : (j : ℕ) → j < st.drawn → bond_at (joined st p m a b h w) j ≡ bond_at st j
-      old j l =
-          rw (get_or-set_other st.one st.drawn j a 0 (λ e. omega arith), get_or-set_other st.two st.drawn j b 0 (λ e. omega arith), get_or-set_other st.code st.drawn j m 0 (λ e. omega arith))
+  abbrev line : TextBond
+  line = record { one = st.cursor.0; two = to.0; code = m }
 
-      last : bond_at (joined st p m a b h w) st.drawn ≡ new
-      last =
-          λ i. record {
-            one = (get_or-set_same st.one st.drawn a 0 (omega (arith, T.one_long, D.bonds)) ∙ ea) i;
-            two = (get_or-set_same st.two st.drawn b 0 (omega (arith, T.two_long, D.bonds)) ∙ eb) i;
-            code = get_or-set_same st.code st.drawn m 0 (omega (arith, T.code_long, D.bonds)) i;
-          }
+  from_there : c < length st.placed
+  from_there = omega (arith, D.from, T.places, T.placed_long)
 
-  joined-view : view_of (joined st p m a b h w) ≡ bonded_by (view_of st) p m
-  joined-view = state_eq refl refl joined-bonds refl
+  to_there : p < length (raised_at h c st).placed
+  to_there = omega (arith, length-set st.placed c (raised h (atom_at st c)), D.to, T.places, T.placed_long)
 
-  new_to_h : to_h (view_of st) new ≡ h_bond (get_or st.kinds st.cursor.0 0) (get_or st.kinds p 0)
-  new_to_h = rw (get_or-take st.n st.kinds st.cursor.0 0 D.from, get_or-take st.n st.kinds p 0 D.to)
+  apart : (q : ℕ) → eqb c q ≡ true → eqb p q ≡ true → ⊥
+  apart q e f = D.apart (eqb-true c q e ∙ sym (eqb-true p q f))
 
-  h_is : h ≡ bit (to_h (view_of st) new)
-  h_is = eh ∙ ap bit (sym new_to_h)
+  kind-kept : (q : ℕ) → (atom_at (bonded to m st) q).kind ≡ (atom_at st q).kind
+  kind-kept q = raised-kind h p (raised_at h c st) to_there q ∙ raised-kind h c st from_there q
 
-  d_is : 1 - h ≡ bit (not (to_h (view_of st) new))
-  d_is = let x = bit_not (to_h (view_of st) new) in omega (arith, h_is)
+  up-kept : (q : ℕ) → (atom_at (bonded to m st) q).up ≡ (atom_at st q).up
+  up-kept q = raised-up h p (raised_at h c st) to_there q ∙ raised-up h c st from_there q
 
-  pub joined-held : (view_of (joined st p m a b h w) ≡ bonded_by (view_of st) p m) × Tallied (joined st p m a b h w)
-  joined-held =
-      let hl : length st.hydrogens ≡ 192 = T.hydrogens_long in
-      let dl : length st.degrees ≡ 192 = T.degrees_long in
-      let from : st.cursor.0 < 192 = omega (arith, D.from, T.places) in
-      let to : p < 192 = omega (arith, D.to, T.places) in (
-        joined-view,
-        record {
-          places = T.places;
-          drawn = omega (arith, D.bonds);
-          kinds_long = T.kinds_long;
-          ups_long = T.ups_long;
-          one_long = length-set st.one st.drawn a ∙ T.one_long;
-          two_long = length-set st.two st.drawn b ∙ T.two_long;
-          code_long = length-set st.code st.drawn m ∙ T.code_long;
-          hydrogens_long = simp length-set hl;
-          degrees_long = simp length-set dl;
-          attached = T.attached;
-          cursor = omega (arith, D.to);
-          heavy_atoms = T.heavy_atoms;
-          hydrogen_atoms = T.hydrogen_atoms;
-          heavy_bonds = omega (arith, T.heavy_bonds, ap heavy_bonds joined-view, count-snoc (λ x. not (to_h (view_of st) x)) (view_of st).bonds new, d_is);
-          hydrogens_on = λ q l.
-              raised st.hydrogens st.cursor.0 p h q D.apart (omega arith) (omega arith)
-              ∙ ap₂ ◌+◌ (T.hydrogens_on q l) (ap (λ (x : ℕ). cond (on q new) x 0) h_is ∙ bit_and (on q new) (to_h (view_of st) new))
-              ∙ sym (ap (λ (s : rules.State). hydrogens_on s q) joined-view ∙ count-snoc (λ x. on q x && to_h (view_of st) x) (view_of st).bonds new);
-          bonds_on = λ q l.
-              raised st.degrees st.cursor.0 p (1 - h) q D.apart (omega arith) (omega arith)
-              ∙ ap₂ ◌+◌ (T.bonds_on q l) (ap (λ (x : ℕ). cond (on q new) x 0) d_is ∙ bit_and (on q new) (not (to_h (view_of st) new)))
-              ∙ sym (ap (λ (s : rules.State). bonds_on s q) joined-view ∙ count-snoc (λ x. on q x && not (to_h (view_of st) x)) (view_of st).bonds new);
-        },
-      )
+  hydrogens-more : (q : ℕ) → (atom_at (bonded to m st) q).hydrogens ≡ (atom_at st q).hydrogens + cond (on q new) (bit h) 0
+  hydrogens-more q =
+      raised-hydrogens h p (raised_at h c st) to_there q ∙ ap (λ (x : ℕ). x + cond (eqb p q) (bit h) 0) (raised-hydrogens h c st from_there q)
+      ∙ at_either (eqb c q) (eqb p q) (bit h) (atom_at st q).hydrogens (apart q)
+
+  bonds-more : (q : ℕ) → (atom_at (bonded to m st) q).bonds ≡ (atom_at st q).bonds + cond (on q new) (bit (not h)) 0
+  bonds-more q =
+      raised-bonds h p (raised_at h c st) to_there q ∙ ap (λ (x : ℕ). x + cond (eqb p q) (bit (not h)) 0) (raised-bonds h c st from_there q)
+      ∙ at_either (eqb c q) (eqb p q) (bit (not h)) (atom_at st q).bonds (apart q)
+
+  bonded-bonds : each (st.drawn + 1) (bond_at (bonded to m st)) ≡ drawn (view_of st) p m
+  bonded-bonds =
+      each_more st.drawn (bond_at st) (bond_at (bonded to m st)) new
+      (λ j l. ap bond_of (get_or-set_other st.links st.drawn j line no_bond (λ e. omega arith)))
+      (ap bond_of (get_or-set_same st.links st.drawn line no_bond (omega (arith, T.links_long, D.bonds))))
+
+  bonded-view : view_of (bonded to m st) ≡ bonded_by (view_of st) p m
+  bonded-view = state_eq (each-eq st.n _ _ (λ q l. kind-kept q)) (each-eq st.n _ _ (λ q l. up-kept q)) bonded-bonds refl
+
+  h_is : h ≡ to_h (view_of st) new
+  h_is = sym (rw (view-kind st c D.from, view-kind st p D.to))
+
+  pub bonded-held : (view_of (bonded to m st) ≡ bonded_by (view_of st) to.0 m) × Tallied (bonded to m st)
+  bonded-held = (
+    bonded-view,
+    record {
+      places = T.places;
+      drawn = omega (arith, D.bonds);
+      placed_long =
+          length-set (raised_at h c st).placed p (raised h (atom_at (raised_at h c st) p)) ∙ length-set st.placed c (raised h (atom_at st c)) ∙ T.placed_long;
+      links_long = length-set st.links st.drawn line ∙ T.links_long;
+      attached = λ q. rw (up-kept q) (T.attached q);
+      cursor = omega (arith, D.to);
+      heavy_atoms = T.heavy_atoms ∙ sym (ap heavy_atoms bonded-view);
+      hydrogen_atoms = T.hydrogen_atoms ∙ sym (ap hydrogen_atoms bonded-view);
+      heavy_bonds =
+          omega (arith, T.heavy_bonds, ap heavy_bonds bonded-view, count-snoc (λ x. not (to_h (view_of st) x)) (view_of st).bonds new, ap (λ (b : Bool). bit (not b)) h_is);
+      hydrogens_on = λ q l.
+          hydrogens-more q
+          ∙ ap₂ ◌+◌ (T.hydrogens_on q l) (ap (λ (b : Bool). cond (on q new) (bit b) 0) h_is ∙ bit_and (on q new) (to_h (view_of st) new))
+          ∙ sym (ap (λ (s : rules.State). hydrogens_on s q) bonded-view ∙ count-snoc (λ x. on q x && to_h (view_of st) x) (view_of st).bonds new);
+      bonds_on = λ q l.
+          bonds-more q
+          ∙ ap₂ ◌+◌ (T.bonds_on q l) (ap (λ (b : Bool). cond (on q new) (bit (not b)) 0) h_is ∙ bit_and (on q new) (not (to_h (view_of st) new)))
+          ∙ sym (ap (λ (s : rules.State). bonds_on s q) bonded-view ∙ count-snoc (λ x. on q x && not (to_h (view_of st) x)) (view_of st).bonds new);
+    },
+  )
+
+-- an H that is alone
+module _ (st : State) where
+  pub lone-drawn : (st.drawn ≡ 0 → ⊥) → false ≡ lone_h (view_of st)
+  lone-drawn n = sym (rw (view-bonds st, ne_eqb st.drawn 0 n, and-false (eqb (get_or (view_of st).kinds 0 0) 0)))
+
+  module _ (z : st.drawn ≡ 0) where
+    pub lone-none : st.n ≡ 0 → true ≡ lone_h (view_of st)
+    lone-none e =
+        let k : (view_of st).kinds ≡ [] = ap (λ (n : ℕ). each n (λ p. (atom_at st p).kind)) e ∙ each-zero (λ p. (atom_at st p).kind) in
+        sym (rw (view-bonds st, z, k))
+
+    pub lone-first : (st.n ≡ 0 → ⊥) → eqb (atom_at st 0).kind 0 ≡ lone_h (view_of st)
+    lone-first n = sym (rw (view-bonds st, z, view-kind st 0 (omega arith), and-true (eqb (atom_at st 0).kind 0)))
+
+-- the cursor moved
+pub moved-held : (st : State) (p : Place) → Tallied st → p.0 ≤ st.n → (view_of (moved p st) ≡ moved_to (view_of st) p.0) × Tallied (moved p st)
+moved-held st p T l = (
+  refl,
+  record {
+    places = T.places;
+    drawn = T.drawn;
+    placed_long = T.placed_long;
+    links_long = T.links_long;
+    attached = T.attached;
+    cursor = l;
+    heavy_atoms = T.heavy_atoms;
+    hydrogen_atoms = T.hydrogen_atoms;
+    heavy_bonds = T.heavy_bonds;
+    hydrogens_on = T.hydrogens_on;
+    bonds_on = T.bonds_on;
+  },
+)
 
 -- steps up
 pub climb-top : (s : rules.State) (k p : ℕ) → 0 < k → p ≡ 0 → rules.climb s k p ≡ length s.kinds
@@ -244,26 +314,12 @@ unfolding rules.climb
 climb-end s zero p h = refl
 climb-end s (suc k) p h = absurd (omega arith)
 
-pub view_places : (st : State) → Tallied st → length (view_of st).kinds ≡ st.n
-view_places st t = length-take-le st.n st.kinds (omega (arith, t.places, t.kinds_long))
-
-pub view-kind : (st : State) (p : ℕ) → p < st.n → get_or (view_of st).kinds p 0 ≡ get_or st.kinds p 0
-view-kind st p h = get_or-take st.n st.kinds p 0 h
-
-pub view-bonds : (st : State) → length (view_of st).bonds ≡ st.drawn
-view-bonds st = length-each st.drawn (bond_at st)
-
 -- the state before any item
-abbrev none : State
+abbrev pub none : State
 none =
     record {
-      kinds = replicate 192 0;
-      ups = replicate 192 0;
-      one = replicate 208 0;
-      two = replicate 208 0;
-      code = replicate 208 0;
-      hydrogens = replicate 192 0;
-      degrees = replicate 192 0;
+      placed = replicate 192 (record { kind = 0; up = 0; hydrogens = 0; bonds = 0 });
+      links = replicate 208 (record { one = 0; two = 0; code = 0 });
       n = 0;
       drawn = 0;
       atoms = 0;
@@ -272,13 +328,13 @@ none =
       cursor = record { 0 = 0 };
     }
 
-zeros : (n p : ℕ) → ◌≡◌ {A = ℕ} (get_or (replicate n 0) p 0) 0
-zeros zero p = refl
-zeros (suc n) zero = refl
-zeros (suc n) (suc p) = zeros n p
+fresh-all : (n p : ℕ) → get_or (replicate n no_atom) p no_atom ≡ no_atom
+fresh-all zero p = refl
+fresh-all (suc n) zero = refl
+fresh-all (suc n) (suc p) = fresh-all n p
 
 none-view : view_of none ≡ rules.start
-none-view = state_eq refl refl (each-zero (bond_at none)) refl
+none-view = state_eq (each-zero (λ p. (atom_at none p).kind)) (each-zero (λ p. (atom_at none p).up)) (each-zero (bond_at none)) refl
 
 pub none-held : (view_of none ≡ rules.start) × Held none
 none-held = (
@@ -287,25 +343,16 @@ none-held = (
     tallied = record {
       places = omega arith;
       drawn = omega arith;
-      kinds_long = length-replicate {A = ℕ} 192 0;
-      ups_long = length-replicate {A = ℕ} 192 0;
-      one_long = length-replicate {A = ℕ} 208 0;
-      two_long = length-replicate {A = ℕ} 208 0;
-      code_long = length-replicate {A = ℕ} 208 0;
-      hydrogens_long = length-replicate {A = ℕ} 192 0;
-      degrees_long = length-replicate {A = ℕ} 192 0;
-      attached = λ p. omega (arith, zeros 192 p);
+      placed_long = length-replicate {A = TextAtom} 192 no_atom;
+      links_long = length-replicate {A = TextBond} 208 no_bond;
+      attached = λ p. omega (arith, ap (λ (a : TextAtom). a.up) (fresh-all 192 p));
       cursor = omega arith;
-      heavy_atoms = refl;
-      hydrogen_atoms = refl;
+      heavy_atoms = sym (ap heavy_atoms none-view);
+      hydrogen_atoms = sym (ap hydrogen_atoms none-view);
       heavy_bonds = sym (ap heavy_bonds none-view);
-      hydrogens_on = λ p l. zeros 192 p ∙ sym (ap (λ (s : rules.State). hydrogens_on s p) none-view);
-      bonds_on = λ p l. zeros 192 p ∙ sym (ap (λ (s : rules.State). bonds_on s p) none-view);
+      hydrogens_on = λ p l. ap (λ (a : TextAtom). a.hydrogens) (fresh-all 192 p) ∙ sym (ap (λ (s : rules.State). hydrogens_on s p) none-view);
+      bonds_on = λ p l. ap (λ (a : TextAtom). a.bonds) (fresh-all 192 p) ∙ sym (ap (λ (s : rules.State). bonds_on s p) none-view);
     };
     reached = rw none-view reached-start;
   },
 )
-
--- the count at another place
-pub count-other : (l : List ℕ) (c p x : ℕ) → (c ≡ p → ⊥) → get_or (set l c x) p 0 ≡ get_or l p 0
-count-other l c p x ne = get_or-set_other l c p x 0 (λ e. ne (sym e))

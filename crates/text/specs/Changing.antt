@@ -1,88 +1,94 @@
--- What an item changes, array by array and count by count.
-use Rattle.std.specs.Prelude.{ℕ, ◌+◌, ◌-◌, ◌≤◌, ◌<◌, Bool, true, false, ◌≡◌, List, eqb, length, get_or, set, take}
+-- What an item changes.
+use Rattle.std.specs.Prelude.{ℕ, ◌+◌, ◌≤◌, ◌<◌, ◌≢◌, Bool, true, false, not, ◌≡◌, eqb, length, set}
 use Rattle.sling.specs.Items as rule
 use Rattle.sling.specs.Reading as rules
 use Rattle.text.specs.declared.item.Place.{Place}
+use Rattle.text.specs.declared.state.TextAtom.{TextAtom}
 use Rattle.text.specs.declared.state.State.{State}
-use Rattle.text.specs.declared.tally.Tally.{Tally}
-use Rattle.text.specs.Holding.{view_of, Held, Judged, bit, h_bit, h_bond}
+use Rattle.text.specs.Holding.{view_of, atom_at, Held, Judged, bit, h_bit, h_bond}
 
--- a state put together from its arrays and its tally
-abbrev pub state_of : (kinds ups one two code hydrogens degrees : List ℕ) → Tally → State
-state_of kinds ups one two code hydrogens degrees t =
+abbrev pub moved : Place → State → State
+moved p st =
     record {
-      kinds = kinds;
-      ups = ups;
-      one = one;
-      two = two;
-      code = code;
-      hydrogens = hydrogens;
-      degrees = degrees;
-      n = t.n;
-      drawn = t.drawn;
-      atoms = t.atoms;
-      total = t.total;
-      bonds = t.bonds;
-      cursor = t.cursor;
+      placed = st.placed;
+      links = st.links;
+      n = st.n;
+      drawn = st.drawn;
+      atoms = st.atoms;
+      total = st.total;
+      bonds = st.bonds;
+      cursor = p;
     }
 
-abbrev pub no_tally : Tally
-no_tally = record { n = 0; drawn = 0; atoms = 0; total = 0; bonds = 0; cursor = record { 0 = 0 } }
-
-abbrev pub moved_tally : Tally → Place → Tally
-moved_tally t p = record { n = t.n; drawn = t.drawn; atoms = t.atoms; total = t.total; bonds = t.bonds; cursor = p }
+-- an atom with no bond yet
+abbrev pub fresh : (kind up : ℕ) → TextAtom
+fresh k u = record { kind = k; up = u; hydrogens = 0; bonds = 0 }
 
 -- an atom more of kind k
-abbrev pub grown_tally : Tally → ℕ → Tally
-grown_tally t k =
+abbrev pub grown : ℕ → State → State
+grown k st =
     record {
-      n = t.n + 1;
-      drawn = t.drawn;
-      atoms = t.atoms + 1 - bit (h_bit k);
-      total = t.total + bit (h_bit k);
-      bonds = t.bonds;
-      cursor = t.cursor;
+      placed = set st.placed st.n (fresh k st.cursor.0);
+      links = st.links;
+      n = st.n + 1;
+      drawn = st.drawn;
+      atoms = st.atoms + bit (not (h_bit k));
+      total = st.total + bit (h_bit k);
+      bonds = st.bonds;
+      cursor = st.cursor;
     }
 
--- a bond more to p; h is 1 for a bond to an H
-abbrev pub bonded_tally : Tally → Place → ℕ → Tally
-bonded_tally t p h =
-    record { n = t.n; drawn = t.drawn + 1; atoms = t.atoms; total = t.total; bonds = t.bonds + (1 - h); cursor = p }
+-- a bond more on an atom, to an H or another
+abbrev pub raised : Bool → TextAtom → TextAtom
+raised h a = record { kind = a.kind; up = a.up; hydrogens = a.hydrogens + bit h; bonds = a.bonds + bit (not h) }
 
--- 1 for a bond to an H, between the places c and p
-abbrev pub h_between : (kinds : List ℕ) → (c p : ℕ) → ℕ
-h_between kinds c p = bit (h_bond (get_or kinds c 0) (get_or kinds p 0))
+-- would a bond between two places be one to an H
+abbrev pub h_between : State → (c p : ℕ) → Bool
+h_between st c p = h_bond (atom_at st c).kind (atom_at st p).kind
 
--- the counts at c and then at p raised by v
-abbrev pub raised_at : List ℕ → (c p v : ℕ) → List ℕ
-raised_at l c p v = set (set l c (get_or l c 0 + v)) p (get_or (set l c (get_or l c 0 + v)) p 0 + v)
+-- the atom at a place with a bond more
+abbrev pub raised_at : Bool → ℕ → State → State
+raised_at h p st =
+    record {
+      placed = set st.placed p (raised h (atom_at st p));
+      links = st.links;
+      n = st.n;
+      drawn = st.drawn;
+      atoms = st.atoms;
+      total = st.total;
+      bonds = st.bonds;
+      cursor = st.cursor;
+    }
 
--- counts at c and at p that can be raised by one
-pub record Raisable (l : List ℕ) (c p : ℕ) : Type 0 where
-  pub from : c < 192
-  pub to : p < 192
-  pub apart : c ≡ p → ⊥
-  pub few : get_or l c 0 ≤ 6
-  pub few' : get_or l p 0 ≤ 6
+-- a bond more from the cursor to p, which moves there
+abbrev pub bonded : Place → ℕ → State → State
+bonded p m st =
+    let h = h_between st st.cursor.0 p.0 in
+    record {
+      placed = (raised_at h p.0 (raised_at h st.cursor.0 st)).placed;
+      links = set st.links st.drawn (record { one = st.cursor.0; two = p.0; code = m });
+      n = st.n;
+      drawn = st.drawn + 1;
+      atoms = st.atoms;
+      total = st.total;
+      bonds = st.bonds + bit (not h);
+      cursor = p;
+    }
 
 -- there is room for an atom more
-pub record Growable (t : Tally) : Type 0 where
-  pub places : t.n < 192
-  pub cursor : t.cursor.0 ≤ t.n
-  pub atoms : t.atoms ≤ 64
-  pub total : t.total ≤ 128
+pub record Growable (st : State) : Type 0 where
+  pub long : length st.placed ≡ 192
+  pub places : st.n < 192
+  pub cursor : st.cursor.0 ≤ st.n
+  pub atoms : st.atoms ≤ 64
+  pub total : st.total ≤ 128
 
 -- steps can be gone up from the cursor
-pub record Climbable (ups : List ℕ) (t : Tally) : Type 0 where
-  pub from : t.cursor.0 < t.n
-  pub places : t.n ≤ 192
-  pub attached : (p : ℕ) → get_or ups p 0 ≤ p
-
--- a rules' state with these attachments and this cursor
-pub record Attached (s : rules.State) (ups : List ℕ) (t : Tally) : Type 0 where
-  pub places : length s.kinds ≡ t.n
-  pub attached : s.ups ≡ take t.n ups
-  pub cursor : s.cursor ≡ t.cursor.0
+pub record Climbable (st : State) : Type 0 where
+  pub long : length st.placed ≡ 192
+  pub from : st.cursor.0 < st.n
+  pub places : st.n ≤ 192
+  pub attached : (p : ℕ) → (atom_at st p).up ≤ p
 
 -- an item with its atom named by place; where there is no atom yet, as it is
 abbrev pub resolved_if : Bool → rules.State → rule.Item → rule.Item
@@ -95,11 +101,18 @@ abbrev pub resolved : rules.State → rule.Item → rule.Item
 resolved s i = resolved_if (eqb (length s.kinds) 0) s i
 
 -- there is room for a bond from the cursor to p
-pub record Bondable (hydrogens degrees : List ℕ) (t : Tally) (p : ℕ) : Type 0 where
-  pub drawn : t.drawn < 208
-  pub heavy : t.bonds ≤ 80
-  pub raises_h : Raisable hydrogens t.cursor.0 p
-  pub raises : Raisable degrees t.cursor.0 p
+pub record Bondable (st : State) (p : ℕ) : Type 0 where
+  pub placed_long : length st.placed ≡ 192
+  pub links_long : length st.links ≡ 208
+  pub drawn : st.drawn < 208
+  pub heavy : st.bonds ≤ 80
+  pub from : st.cursor.0 < 192
+  pub to : p < 192
+  pub apart : st.cursor.0 ≢ p
+  pub few_h : (atom_at st st.cursor.0).hydrogens ≤ 6
+  pub few_h' : (atom_at st p).hydrogens ≤ 6
+  pub few : (atom_at st st.cursor.0).bonds ≤ 6
+  pub few' : (atom_at st p).bonds ≤ 6
 
 -- a state and an item that can follow it, and the state after it
 pub record Continues (st : State) (i : rule.Item) : Type 0 where

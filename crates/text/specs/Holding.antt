@@ -1,5 +1,5 @@
 -- What a reader has, as the rules have it.
-use Rattle.std.specs.Prelude.{ℕ, ◌≤◌, ◌<◌, ◌≡◌, List, [], ◌∷◌, ◌++◌, map, Bool, cond, ◌||◌, length, get_or, take, eqb}
+use Rattle.std.specs.Prelude.{ℕ, ◌≤◌, ◌<◌, ◌≡◌, List, [], ◌∷◌, ◌++◌, map, Bool, cond, ◌||◌, length, get_or, eqb}
 use Rattle.lists.specs.Upto.{each}
 use Rattle.molecule.specs.Bonds.{Bond}
 use Rattle.sling.specs.Items as rule
@@ -7,33 +7,47 @@ use Rattle.sling.specs.Scanned.{tok}
 use Rattle.sling.specs.Reading as rules
 use Rattle.sling.specs.Reading.{drawn, hydrogens_on, bonds_on}
 use Rattle.sling.specs.Faults.{code_of, heavy_atoms, hydrogen_atoms, heavy_bonds, item_fault, finished, run}
+use Rattle.text.specs.declared.state.TextAtom.{TextAtom}
+use Rattle.text.specs.declared.state.TextBond.{TextBond}
 use Rattle.text.specs.declared.state.State.{State}
 
+abbrev pub no_atom : TextAtom
+no_atom = record { kind = 0; up = 0; hydrogens = 0; bonds = 0 }
+
+abbrev pub no_bond : TextBond
+no_bond = record { one = 0; two = 0; code = 0 }
+
+abbrev pub atom_at : State → ℕ → TextAtom
+atom_at st p = get_or st.placed p no_atom
+
+abbrev pub bond_of : TextBond → Bond
+bond_of d = record { one = d.one; two = d.two; code = d.code }
+
 abbrev pub bond_at : State → ℕ → Bond
-bond_at st k = record { one = get_or st.one k 0; two = get_or st.two k 0; code = get_or st.code k 0 }
+bond_at st k = bond_of (get_or st.links k no_bond)
 
 abbrev pub view_of : State → rules.State
 view_of st =
-    record { kinds = take st.n st.kinds; ups = take st.n st.ups; bonds = each st.drawn (bond_at st); cursor = st.cursor.0 }
+    record {
+      kinds = each st.n (λ p. (atom_at st p).kind);
+      ups = each st.n (λ p. (atom_at st p).up);
+      bonds = each st.drawn (bond_at st);
+      cursor = st.cursor.0;
+    }
 
 -- What a state keeps: the arrays have their lengths, an atom was attached no later than it came, and the counts are the rules'.
 pub record Tallied (st : State) : Type 0 where
   pub places : st.n ≤ 192
   pub drawn : st.drawn ≤ 208
-  pub kinds_long : length st.kinds ≡ 192
-  pub ups_long : length st.ups ≡ 192
-  pub one_long : length st.one ≡ 208
-  pub two_long : length st.two ≡ 208
-  pub code_long : length st.code ≡ 208
-  pub hydrogens_long : length st.hydrogens ≡ 192
-  pub degrees_long : length st.degrees ≡ 192
-  pub attached : (p : ℕ) → get_or st.ups p 0 ≤ p
+  pub placed_long : length st.placed ≡ 192
+  pub links_long : length st.links ≡ 208
+  pub attached : (p : ℕ) → (atom_at st p).up ≤ p
   pub cursor : st.cursor.0 ≤ st.n
   pub heavy_atoms : st.atoms ≡ heavy_atoms (view_of st)
   pub hydrogen_atoms : st.total ≡ hydrogen_atoms (view_of st)
   pub heavy_bonds : st.bonds ≡ heavy_bonds (view_of st)
-  pub hydrogens_on : (p : ℕ) → p < 192 → get_or st.hydrogens p 0 ≡ hydrogens_on (view_of st) p
-  pub bonds_on : (p : ℕ) → p < 192 → get_or st.degrees p 0 ≡ bonds_on (view_of st) p
+  pub hydrogens_on : (p : ℕ) → p < 192 → (atom_at st p).hydrogens ≡ hydrogens_on (view_of st) p
+  pub bonds_on : (p : ℕ) → p < 192 → (atom_at st p).bonds ≡ bonds_on (view_of st) p
 
 -- each item has the code of a mark
 abbrev pub Marked : List rule.Item → Type 0
@@ -52,10 +66,6 @@ pub record Held (st : State) : Type 0 where
 
 abbrev pub bit : Bool → ℕ
 bit b = cond b 1 0
-
-pub record Bit (b : Bool) (r : ℕ) : Type 0 where
-  pub is : r ≡ bit b
-  pub small : r ≤ 1
 
 abbrev pub h_bit : ℕ → Bool
 h_bit k = eqb k 0
@@ -80,10 +90,10 @@ pub record Drawable (st : State) (p : ℕ) : Type 0 where
   pub from : st.cursor.0 < st.n
   pub to : p < st.n
   pub apart : st.cursor.0 ≡ p → ⊥
-  pub few_h : get_or st.hydrogens st.cursor.0 0 ≤ 4
-  pub few_h' : get_or st.hydrogens p 0 ≤ 4
-  pub few : get_or st.degrees st.cursor.0 0 ≤ 6
-  pub few' : get_or st.degrees p 0 ≤ 6
+  pub few_h : (atom_at st st.cursor.0).hydrogens ≤ 4
+  pub few_h' : (atom_at st p).hydrogens ≤ 4
+  pub few : (atom_at st st.cursor.0).bonds ≤ 6
+  pub few' : (atom_at st p).bonds ≤ 6
 
 -- an item with the code of a mark, and not refused
 pub record Judged (s : rules.State) (i : rule.Item) : Type 0 where

@@ -1,60 +1,36 @@
 // The state after an item.
 ghost use Rattle.sling.specs.Items.{atom};
-ghost use Rattle.text.specs.Scanning.{item_of};
-ghost use Rattle.text.specs.Changing.{state_of, Continues, Follows};
+ghost use Rattle.text.specs.Changing.{Continues, Follows};
+ghost use Rattle.text.specs.Judging.{step_of};
 
-use crate::item::{Item, Place};
-use crate::state::{State, bonded, grown, named, place_of_number};
-use crate::tally::Tally;
+use crate::item::{Place, Step};
+use crate::state::State;
+use kinds::Kind;
 
-fn with_atom(
-    kinds: &mut [u8; State::PLACES],
-    ups: &mut [u8; State::PLACES],
-    one: &mut [u8; State::BONDS],
-    two: &mut [u8; State::BONDS],
-    codes: &mut [u8; State::BONDS],
-    hydrogens: &mut [u8; State::PLACES],
-    degrees: &mut [u8; State::PLACES],
-    t: Tally,
-    code: u8,
-    kind: u8,
-) -> Tally
-    requires { Continues (state_of kinds.old ups.old one.old two.old codes.old hydrogens.old degrees.old t) (atom code kind) }
-    ensures { Follows (state_of kinds.old ups.old one.old two.old codes.old hydrogens.old degrees.old t) (atom code kind)
-        (state_of kinds.new ups.new one.new two.new codes.new hydrogens.new degrees.new result) }
-{
-    let n = t.n;
-    let more = grown(kinds, ups, t, kind);
-    if n == 0 {
-        return more.moved(Place(0));
+impl State {
+    // An atom more; the first has no bond to another.
+    fn put_atom(&mut self, code: u8, kind: Kind)
+        requires { Continues self.old (atom code kind) }
+        ensures { Follows self.old (atom code kind) self.new }
+    {
+        let place = Place(self.n as u16);
+        self.grow(kind);
+        if place.0 == 0 {
+            self.cursor = place;
+        } else {
+            self.draw(place, code);
+        }
     }
-    let to = place_of_number(n);
-    bonded(kinds, one, two, codes, hydrogens, degrees, more, to, code)
-}
 
-pub fn after(
-    kinds: &mut [u8; State::PLACES],
-    ups: &mut [u8; State::PLACES],
-    one: &mut [u8; State::BONDS],
-    two: &mut [u8; State::BONDS],
-    codes: &mut [u8; State::BONDS],
-    hydrogens: &mut [u8; State::PLACES],
-    degrees: &mut [u8; State::PLACES],
-    t: Tally,
-    item: Item,
-) -> Tally
-    requires { Continues (state_of kinds.old ups.old one.old two.old codes.old hydrogens.old degrees.old t) (item_of item) }
-    ensures { Follows (state_of kinds.old ups.old one.old two.old codes.old hydrogens.old degrees.old t) (item_of item)
-        (state_of kinds.new ups.new one.new two.new codes.new hydrogens.new degrees.new result) }
-{
-    match item {
-        Item::Atom { code, kind } => with_atom(
-            kinds, ups, one, two, codes, hydrogens, degrees, t, code, kind,
-        ),
-        Item::Reference(target) => t.moved(named(ups, t, target)),
-        Item::Ring { code, target } => {
-            let to = named(ups, t, target);
-            bonded(kinds, one, two, codes, hydrogens, degrees, t, to, code)
+    // A step taken.
+    pub fn follow(&mut self, step: Step)
+        requires { Continues self.old (step_of step) }
+        ensures { Follows self.old (step_of step) self.new }
+    {
+        match step {
+            Step::Atom { code, kind } => self.put_atom(code, kind),
+            Step::Reference(place) => self.cursor = place,
+            Step::Ring { code, place } => self.draw(place, code),
         }
     }
 }

@@ -1,122 +1,62 @@
 // The molecule that a text writes, hydrogens folded.
-ghost use Rattle.std.specs.Prelude.{◌≡◌, ◌<◌};
 ghost use Rattle.molecule.specs.Renumbering.{Renumbered};
 ghost use Rattle.sling.specs.Folded.{folded};
 ghost use Rattle.table.specs.View.{TidyTable};
 ghost use Rattle.text.specs.Holding.{view_of, Held};
-ghost use Rattle.text.specs.Folding.{molecule_of, HeavyPut, Bares, Linkable, Links};
+ghost use Rattle.text.specs.Folding.{molecule_of, Bares};
 
-use crate::state::{State, narrow, wide};
-use table::{AtomNo, Table, rows};
+use crate::state::State;
+use kinds::Kind;
+use table::rows::Rows;
+use table::{AtomNo, Table};
 
 // The atoms of a text as a table without bonds, and by place the number that an atom there has in it.
+// `drawing` has its like over 999 atoms whose hydrogens are counted later: one type for both would share two fields and no step.
 #[derive(Clone, Copy, Drop)]
 pub struct Bare {
     pub table: Table,
-    pub numbers: [u8; State::PLACES],
+    pub numbers: [AtomNo; State::PLACES],
 }
 
-// An H is no atom of a table. Gives the number of atoms.
-fn put_heavy(
-    kinds: &mut [u8; Table::MAX_ATOMS],
-    hydrogens: &mut [u8; Table::MAX_ATOMS],
-    n: usize,
-    kind: u8,
-    count: u8,
-) -> usize
-    requires { (kind ≡ 0 → ⊥) → n < 64 }
-    ensures { HeavyPut n kind count kinds.old hydrogens.old result kinds.new hydrogens.new }
+// The atoms; an H is no atom of a table.
+fn bare_atoms(state: &State) -> Bare
+    requires { Held state.now }
+    ensures { Bares state.now result }
 {
-    if kind == 0 {
-        return n;
-    }
-    kinds[n] = kind;
-    hydrogens[n] = count;
-    n + 1
-}
-
-fn bare_atoms(st: State) -> Bare
-    requires { Held st }
-    ensures { Bares st result }
-{
-    let mut kinds = [0u8; Table::MAX_ATOMS];
-    let mut hydrogens = [0u8; Table::MAX_ATOMS];
-    let mut numbers = [0u8; State::PLACES];
-    let mut n: usize = 0;
-    let mut p: usize = 0;
-    while p < st.n {
-        numbers[p] = narrow(n);
-        n = put_heavy(&mut kinds, &mut hydrogens, n, st.kinds[p], st.hydrogens[p]);
-        p += 1;
-    }
-    let table = Table {
-        n,
-        kinds,
-        hydrogens,
-        degrees: [0u8; Table::MAX_ATOMS],
-        near: [0u8; Table::SLOTS],
-        codes: [0u8; Table::SLOTS],
+    let mut table = Table {
+        n: 0,
+        kinds: [Kind::H; Table::MAX_ATOMS],
+        hydrogens: [0u8; Table::MAX_ATOMS],
+        rows: Rows::empty(),
     };
+    let mut numbers = [AtomNo(0); State::PLACES];
+    for p in 0..state.n {
+        let atom = state.placed[p];
+        numbers[p] = AtomNo(table.n as u8);
+        if atom.kind == Kind::H {
+            continue;
+        }
+        table.kinds[table.n] = atom.kind;
+        table.hydrogens[table.n] = atom.hydrogens;
+        table.n += 1;
+    }
     Bare { table, numbers }
 }
 
-// A bond to an H is no bond of a table.
-fn put_link(
-    degrees: &mut [u8; Table::MAX_ATOMS],
-    near: &mut [u8; Table::SLOTS],
-    codes: &mut [u8; Table::SLOTS],
-    kind: u8,
-    other: u8,
-    a: AtomNo,
-    b: AtomNo,
-    code: u8,
-)
-    requires { Linkable (record { degrees = degrees.old; near = near.old; codes = codes.old }) kind other a.0 b.0 }
-    ensures { Links (record { degrees = degrees.old; near = near.old; codes = codes.old }) kind other a.0 b.0 code (record { degrees = degrees.new; near = near.new; codes = codes.new }) }
+// The atoms and the bonds; one to an H is no bond of a table.
+pub fn folded(state: &State) -> Table
+    requires { Held state.now }
+    ensures { TidyTable result × Renumbered (λ a. a) (folded (view_of state.now)) (molecule_of result) }
 {
-    if kind == 0 {
-        return;
+    let bare = bare_atoms(state);
+    let mut table = bare.table;
+    for bond in &state.links[..state.drawn] {
+        if state.to_h(bond) {
+            continue;
+        }
+        let one = bare.numbers[bond.one as usize];
+        let two = bare.numbers[bond.two as usize];
+        table.rows.put_bond(one, two, bond.code);
     }
-    if other == 0 {
-        return;
-    }
-    rows::put_bond(degrees, near, codes, a, b, code);
-}
-
-pub fn folded(st: State) -> Table
-    requires { Held st }
-    ensures { TidyTable result × Renumbered (λ a. a) (folded (view_of st)) (molecule_of result) }
-{
-    let atoms = bare_atoms(st);
-    let numbers = atoms.numbers;
-    let bare = atoms.table;
-    let kinds = bare.kinds;
-    let hydrogens = bare.hydrogens;
-    let mut degrees = bare.degrees;
-    let mut near = bare.near;
-    let mut codes = bare.codes;
-    let mut k: usize = 0;
-    while k < st.drawn {
-        let one = wide(st.one[k]);
-        let two = wide(st.two[k]);
-        put_link(
-            &mut degrees,
-            &mut near,
-            &mut codes,
-            st.kinds[one],
-            st.kinds[two],
-            AtomNo(numbers[one]),
-            AtomNo(numbers[two]),
-            st.code[k],
-        );
-        k += 1;
-    }
-    Table {
-        n: bare.n,
-        kinds,
-        hydrogens,
-        degrees,
-        near,
-        codes,
-    }
+    table
 }

@@ -1,59 +1,48 @@
 // A number of a text.
-ghost use Rattle.std.specs.Prelude.{◌≡◌, ◌≤◌, ◌<◌, length};
+ghost use Rattle.std.specs.Prelude.{◌≡◌, ◌≤◌, length};
 ghost use Rattle.text.specs.Scanning.{Digit, NumberRead};
 
-// A number's value with its bytes, or none.
-#[derive(Clone, Copy, Drop)]
-pub enum Number {
-    Value { value: u16, bytes: usize },
-    Nothing,
+// A number's value with its bytes.
+#[derive(Clone, Copy, Debug, PartialEq, Eq, Drop)]
+pub struct Number {
+    pub value: u16,
+    pub bytes: usize,
 }
 
-// The digit at an offset, or 10 where none stands there.
-fn digit_at(text: &[u8], at: usize) -> u16
+// The digit at an offset, if one stands there.
+#[tactic(auto, unfolding(crate::specs::Scanning::digit_at))]
+fn digit_at(text: &[u8], at: usize) -> Option<u16>
     ensures { Digit text.now at result }
 {
-    if at < text.len() {
-        let b = text[at];
-        if b < 48 {
-            return 10;
-        }
-        if b <= 57 {
-            return (b - 48) as u16;
-        }
+    if at < text.len() && text[at].is_ascii_digit() {
+        return Some((text[at] - b'0') as u16);
     }
-    10
+    None
 }
 
 // A fourth digit, or a second one behind a 0, makes the whole run no number.
-pub fn number_at(text: &[u8], at: usize) -> Number
+pub fn number_at(text: &[u8], at: usize) -> Option<Number>
     requires { at ≤ length text.now }
     ensures { NumberRead text.now at result }
 {
-    let a = digit_at(text, at);
-    if a == 10 {
-        return Number::Nothing;
-    }
-    let b = digit_at(text, at + 1);
-    if b == 10 {
-        return Number::Value { value: a, bytes: 1 };
-    }
+    let a = digit_at(text, at)?;
+    let Some(b) = digit_at(text, at + 1) else {
+        return Some(Number { value: a, bytes: 1 });
+    };
     if a == 0 {
-        return Number::Nothing;
+        return None;
     }
-    let c = digit_at(text, at + 2);
-    if c == 10 {
-        return Number::Value {
+    let Some(c) = digit_at(text, at + 2) else {
+        return Some(Number {
             value: 10 * a + b,
             bytes: 2,
-        };
-    }
-    let d = digit_at(text, at + 3);
-    if d == 10 {
-        return Number::Value {
+        });
+    };
+    match digit_at(text, at + 3) {
+        Some(_) => None,
+        None => Some(Number {
             value: 100 * a + 10 * b + c,
             bytes: 3,
-        };
+        }),
     }
-    Number::Nothing
 }

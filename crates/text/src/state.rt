@@ -1,26 +1,88 @@
 // What a reader has of a text so far.
-ghost use Rattle.std.specs.Prelude.{◌≡◌, ◌-◌, ◌≤◌, ◌<◌, set};
-ghost use Rattle.sling.specs.Reading as rules;
+ghost use Rattle.std.specs.Prelude.{◌≡◌, ◌≤◌, ◌<◌, length};
+ghost use Rattle.molecule.specs.Bonds.{joins};
 ghost use Rattle.sling.specs.Reading.{start, climb, place_of};
-ghost use Rattle.text.specs.Scanning.{target_of, item_of};
-ghost use Rattle.text.specs.Holding.{view_of, Held, Bit, h_bit, h_bond};
-ghost use Rattle.text.specs.Changing.{state_of, grown_tally, bonded_tally, h_between, raised_at, Raisable, Growable, Bondable, Climbable, Attached, resolved};
+ghost use Rattle.sling.specs.Folded.{lone_h};
+ghost use Rattle.text.specs.Scanning.{target_of};
+ghost use Rattle.text.specs.Holding.{atom_at, bond_of, view_of, Held, h_bond};
+ghost use Rattle.text.specs.Changing.{fresh, raised, h_between, grown, bonded, Growable, Bondable, Climbable};
+ghost use Rattle.text.specs.Judging.{paired_in};
 
-use crate::item::{Item, Place, Target};
-use crate::tally::Tally;
+use crate::item::{Place, Target};
+use kinds::Kind;
 use table::Table;
 
-// By place, each atom's kind and the place at which it was attached; the bonds drawn, between places; the cursor. What the limits count
-// is kept beside them (atoms and bonds without H, hydrogens in total, and both on each place), so that judging an item counts nothing.
+// An atom of a text: its kind, the place at which it was attached (a byte, since fewer than 192 places are there), and how many bonds to an H
+// and how many others are drawn on it.
+#[derive(Clone, Copy, Drop)]
+pub struct TextAtom {
+    pub kind: Kind,
+    pub up: u8,
+    pub hydrogens: u8,
+    pub bonds: u8,
+}
+
+impl TextAtom {
+    // An atom attached at a place, with no bond yet.
+    pub fn new(kind: Kind, up: Place) -> TextAtom
+        requires { up.0 < 256 }
+        ensures { result ≡ fresh kind up.0 }
+    {
+        TextAtom {
+            kind,
+            up: up.0 as u8,
+            hydrogens: 0,
+            bonds: 0,
+        }
+    }
+
+    // With a bond more, to an H or another.
+    pub fn raised(&self, to_h: bool) -> TextAtom
+        requires { (self.now.hydrogens ≤ 6) × (self.now.bonds ≤ 6) }
+        ensures { result ≡ raised to_h self.now }
+    {
+        TextAtom {
+            hydrogens: self.hydrogens + to_h as u8,
+            bonds: self.bonds + !to_h as u8,
+            ..*self
+        }
+    }
+}
+
+// Whether a bond between two kinds is one to an H.
+pub fn h_bond(one: Kind, other: Kind) -> bool
+    ensures { result ≡ h_bond one other }
+{
+    one == Kind::H || other == Kind::H
+}
+
+// A bond drawn in a text, between two places.
+#[derive(Clone, Copy, Drop)]
+pub struct TextBond {
+    pub one: u8,
+    pub two: u8,
+    pub code: u8,
+}
+
+impl TextBond {
+    // Whether it joins p and q, either way round.
+    fn joins(&self, p: Place, q: Place) -> bool
+        ensures { result ≡ joins p.0 q.0 (bond_of self.now) }
+    {
+        let one = self.one as u16;
+        let two = self.two as u16;
+        (one == p.0 && two == q.0) || (one == q.0 && two == p.0)
+    }
+}
+
+// By place the atoms; the bonds drawn; the cursor. What the limits count is kept beside them (atoms and bonds without H, hydrogens in total),
+// so that judging an item counts nothing. Arrays with their counts, and no lists, since nothing is taken from a heap. `Held` is asked in
+// contracts and is no invariant of the type: an atom that was grown hangs on nothing until its bond is drawn, so that no items lead to
+// the state between the two.
 #[derive(Clone, Copy, Drop)]
 pub struct State {
-    pub kinds: [u8; State::PLACES],
-    pub ups: [u8; State::PLACES],
-    pub one: [u8; State::BONDS],
-    pub two: [u8; State::BONDS],
-    pub code: [u8; State::BONDS],
-    pub hydrogens: [u8; State::PLACES],
-    pub degrees: [u8; State::PLACES],
+    pub placed: [TextAtom; State::PLACES],
+    pub links: [TextBond; State::BONDS],
     pub n: usize,
     pub drawn: usize,
     pub atoms: usize,
@@ -34,17 +96,22 @@ impl State {
 
     pub const BONDS: usize = Table::MAX_BONDS + Table::MAX_HYDROGENS;
 
+    // Before any item.
     pub fn empty() -> State
         ensures { (view_of result ≡ start) × Held result }
     {
         State {
-            kinds: [0u8; State::PLACES],
-            ups: [0u8; State::PLACES],
-            one: [0u8; State::BONDS],
-            two: [0u8; State::BONDS],
-            code: [0u8; State::BONDS],
-            hydrogens: [0u8; State::PLACES],
-            degrees: [0u8; State::PLACES],
+            placed: [TextAtom {
+                kind: Kind::H,
+                up: 0,
+                hydrogens: 0,
+                bonds: 0,
+            }; State::PLACES],
+            links: [TextBond {
+                one: 0,
+                two: 0,
+                code: 0,
+            }; State::BONDS],
             n: 0,
             drawn: 0,
             atoms: 0,
@@ -53,194 +120,104 @@ impl State {
             cursor: Place(0),
         }
     }
-}
 
-pub fn wide(x: u8) -> usize
-    ensures { (result ≡ x) × (result < 256) }
-{
-    x as usize
-}
-
-pub fn narrow(x: usize) -> u8
-    requires { x < 256 }
-    ensures { result ≡ x }
-{
-    x as u8
-}
-
-pub fn place_of_number(x: usize) -> Place
-    requires { x < 65536 }
-    ensures { result.0 ≡ x }
-{
-    Place(x as u16)
-}
-
-// 1 for H.
-pub fn h_bit(kind: u8) -> u8
-    ensures { Bit (h_bit kind) result }
-{
-    if kind == 0 {
-        return 1;
+    // The atom at a place.
+    pub fn atom(&self, place: Place) -> TextAtom
+        requires { (place.0 < 192) × (length self.now.placed ≡ 192) }
+        ensures { result ≡ atom_at self.now place.0 }
+    {
+        self.placed[place.0 as usize]
     }
-    0
-}
 
-// 1 for a bond to an H.
-pub fn h_bond(one: u8, other: u8) -> u8
-    ensures { Bit (h_bond one other) result }
-{
-    if one == 0 {
-        return 1;
+    // Whether a bond is one to an H.
+    pub fn to_h(&self, bond: &TextBond) -> bool
+        requires { (bond.now.one < 192) × (bond.now.two < 192) × (length self.now.placed ≡ 192) }
+        ensures { result ≡ h_between self.now bond.now.one bond.now.two }
+    {
+        h_bond(
+            self.placed[bond.one as usize].kind,
+            self.placed[bond.two as usize].kind,
+        )
     }
-    h_bit(other)
-}
 
-// A state put together from its arrays and its tally.
-pub fn state_of<'a>(
-    kinds: &'a [u8; State::PLACES],
-    ups: &'a [u8; State::PLACES],
-    one: &'a [u8; State::BONDS],
-    two: &'a [u8; State::BONDS],
-    code: &'a [u8; State::BONDS],
-    hydrogens: &'a [u8; State::PLACES],
-    degrees: &'a [u8; State::PLACES],
-    t: Tally,
-) -> State
-    ensures { result ≡ state_of kinds.now ups.now one.now two.now code.now hydrogens.now degrees.now t }
-{
-    let cursor = t.cursor;
-    State {
-        kinds: *kinds,
-        ups: *ups,
-        one: *one,
-        two: *two,
-        code: *code,
-        hydrogens: *hydrogens,
-        degrees: *degrees,
-        n: t.n,
-        drawn: t.drawn,
-        atoms: t.atoms,
-        total: t.total,
-        bonds: t.bonds,
-        cursor,
-    }
-}
-
-// So many steps up from the cursor; too many lead to the place that is not there yet.
-fn climbed(ups: &[u8; State::PLACES], t: Tally, steps: u16) -> Place
-    requires { Climbable ups.now t }
-    ensures { (s : rules.State) → Attached s ups.now t → result.0 ≡ climb s steps t.cursor.0 }
-{
-    let mut p = t.cursor.0 as usize;
-    let mut k = steps;
-    while 0 < k {
-        if p == 0 {
-            return place_of_number(t.n);
-        }
-        p = wide(ups[p]);
-        k -= 1;
-    }
-    place_of_number(p)
-}
-
-// The place that a target names.
-pub fn named(ups: &[u8; State::PLACES], t: Tally, target: Target) -> Place
-    requires { Climbable ups.now t }
-    ensures { (s : rules.State) → Attached s ups.now t → result.0 ≡ place_of s (target_of target) }
-{
-    match target {
-        Target::At(place) => place,
-        Target::Up(steps) => climbed(ups, t, steps),
-    }
-}
-
-// An item with its atom named by place, so that steps are gone once for each item.
-pub fn resolved(ups: &[u8; State::PLACES], t: Tally, item: Item) -> Item
-    requires { (t.n ≡ 0 → ⊥) → Climbable ups.now t }
-    ensures { (s : rules.State) → Attached s ups.now t → item_of result ≡ resolved s (item_of item) }
-{
-    if t.n == 0 {
-        return item;
-    }
-    match item {
-        Item::Atom { code, kind } => Item::Atom { code, kind },
-        Item::Reference(target) => {
-            let place = named(ups, t, target);
-            Item::Reference(Target::At(place))
-        }
-        Item::Ring { code, target } => {
-            let place = named(ups, t, target);
-            Item::Ring {
-                code,
-                target: Target::At(place),
+    // So many steps up from the cursor; too many lead to the place that is not there yet.
+    fn climbed(&self, steps: u16) -> Place
+        requires { Climbable self.now }
+        ensures { result.0 ≡ climb (view_of self.now) steps self.now.cursor.0 }
+    {
+        let mut p = self.cursor.0;
+        for _step in 0..steps {
+            if p == 0 {
+                return Place(self.n as u16);
             }
+            p = self.placed[p as usize].up as u16;
+        }
+        Place(p)
+    }
+
+    // The place that a target names.
+    pub fn named(&self, target: Target) -> Place
+        requires { Climbable self.now }
+        ensures { result.0 ≡ place_of (view_of self.now) (target_of target) }
+    {
+        match target {
+            Target::At(place) => place,
+            Target::Up(steps) => self.climbed(steps),
         }
     }
-}
 
-// An atom more, attached at the cursor.
-pub fn grown(
-    kinds: &mut [u8; State::PLACES],
-    ups: &mut [u8; State::PLACES],
-    t: Tally,
-    kind: u8,
-) -> Tally
-    requires { Growable t }
-    ensures { (kinds.new ≡ set kinds.old t.n kind) × (ups.new ≡ set ups.old t.n t.cursor.0) × (result ≡ grown_tally t kind) }
-{
-    let mut next = t;
-    let n = next.n;
-    let h = wide(h_bit(kind));
-    kinds[n] = kind;
-    ups[n] = narrow(next.cursor.0 as usize);
-    next.n = n + 1;
-    next.atoms = next.atoms + 1 - h;
-    next.total = next.total + h;
-    next
-}
+    // Whether the cursor's atom has a bond with the atom at a place.
+    pub fn paired(&self, to: Place) -> bool
+        requires { self.now.drawn ≤ length self.now.links }
+        ensures { result ≡ paired_in self.now to.0 }
+    {
+        let from = self.cursor;
+        self.links[..self.drawn]
+            .iter()
+            .any(|bond| bond.joins(from, to))
+    }
 
-// The counts at both ends of a new bond raised.
-fn raise(counts: &mut [u8; State::PLACES], from: Place, to: Place, by: u8)
-    requires { Raisable counts.old from.0 to.0 × (by ≤ 1) }
-    ensures { counts.new ≡ raised_at counts.old from.0 to.0 by }
-{
-    let c = from.0 as usize;
-    let p = to.0 as usize;
-    counts[c] = counts[c] + by;
-    counts[p] = counts[p] + by;
-}
+    // An atom more, attached at the cursor.
+    pub fn grow(&mut self, kind: Kind)
+        requires { Growable self.old }
+        ensures { self.new ≡ grown kind self.old }
+    {
+        let is_h = kind == Kind::H;
+        self.placed[self.n] = TextAtom::new(kind, self.cursor);
+        self.n += 1;
+        self.atoms += !is_h as usize;
+        self.total += is_h as usize;
+    }
 
-// A bond drawn from the cursor, which moves along it.
-pub fn bonded<'a>(
-    kinds: &'a [u8; State::PLACES],
-    one: &mut [u8; State::BONDS],
-    two: &mut [u8; State::BONDS],
-    codes: &mut [u8; State::BONDS],
-    hydrogens: &mut [u8; State::PLACES],
-    degrees: &mut [u8; State::PLACES],
-    t: Tally,
-    to: Place,
-    code: u8,
-) -> Tally
-    requires { Bondable hydrogens.old degrees.old t to.0 }
-    ensures { (one.new ≡ set one.old t.drawn t.cursor.0) × (two.new ≡ set two.old t.drawn to.0) × (codes.new ≡ set codes.old t.drawn code)
-        × (hydrogens.new ≡ raised_at hydrogens.old t.cursor.0 to.0 (h_between kinds.now t.cursor.0 to.0))
-        × (degrees.new ≡ raised_at degrees.old t.cursor.0 to.0 (1 - h_between kinds.now t.cursor.0 to.0))
-        × (result ≡ bonded_tally t to (h_between kinds.now t.cursor.0 to.0)) }
-{
-    let from = t.cursor;
-    let c = from.0 as usize;
-    let p = to.0 as usize;
-    let m = t.drawn;
-    let h = h_bond(kinds[c], kinds[p]);
-    one[m] = narrow(c);
-    two[m] = narrow(p);
-    codes[m] = code;
-    raise(hydrogens, from, to, h);
-    raise(degrees, from, to, 1 - h);
-    let mut next = t;
-    next.drawn = m + 1;
-    next.bonds = next.bonds + wide(1 - h);
-    next.cursor = to;
-    next
+    // A bond drawn from the cursor, which moves along it.
+    pub fn draw(&mut self, to: Place, code: u8)
+        requires { Bondable self.old to.0 }
+        ensures { self.new ≡ bonded to code self.old }
+    {
+        let c = self.cursor.0 as usize;
+        let p = to.0 as usize;
+        let bond = TextBond {
+            one: self.cursor.0 as u8,
+            two: to.0 as u8,
+            code,
+        };
+        let to_h = self.to_h(&bond);
+        self.links[self.drawn] = bond;
+        self.placed[c] = self.placed[c].raised(to_h);
+        self.placed[p] = self.placed[p].raised(to_h);
+        self.drawn += 1;
+        self.bonds += !to_h as usize;
+        self.cursor = to;
+    }
+
+    // Whether all that was read is an H, which has no bond then.
+    pub fn lone_h(&self) -> bool
+        requires { Held self.now }
+        ensures { result ≡ lone_h (view_of self.now) }
+    {
+        if self.drawn != 0 {
+            return false;
+        }
+        self.n == 0 || self.placed[0].kind == Kind::H
+    }
 }

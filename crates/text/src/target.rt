@@ -1,52 +1,53 @@
 // What a reference or a ring bond names.
-ghost use Rattle.std.specs.Prelude.{◌≡◌, ◌≤◌, ◌<◌, length};
+ghost use Rattle.std.specs.Prelude.{◌≡◌, ◌≤◌, length};
 ghost use Rattle.text.specs.Scanning.{Placed, Stepped, Aims};
 
 use crate::item::{Place, Target};
-use crate::number::{Number, number_at};
+use crate::number::number_at;
 
-// A target with the offset behind it, or none.
+// A target with the offset behind it.
 #[derive(Clone, Copy, Drop)]
-pub enum Aim {
-    Found(Target, usize),
-    Astray,
+pub struct Aim {
+    pub target: Target,
+    pub next: usize,
 }
 
 // A number that names a place.
-pub fn place_at(text: &[u8], at: usize) -> Aim
+pub fn place_at(text: &[u8], at: usize) -> Option<Aim>
     requires { at ≤ length text.now }
     ensures { Placed text.now at result }
 {
-    match number_at(text, at) {
-        Number::Nothing => Aim::Astray,
-        Number::Value { value, bytes } => Aim::Found(Target::At(Place(value)), at + bytes),
-    }
+    let number = number_at(text, at)?;
+    Some(Aim {
+        target: Target::At(Place(number.value)),
+        next: at + number.bytes,
+    })
 }
 
 // A number behind a `-`: steps up, at least one.
-fn steps_at(text: &[u8], at: usize) -> Aim
+fn steps_at(text: &[u8], at: usize) -> Option<Aim>
     requires { at ≤ length text.now }
     ensures { Stepped text.now at result }
 {
-    match number_at(text, at) {
-        Number::Nothing => Aim::Astray,
-        Number::Value { value, bytes } => {
-            if value == 0 {
-                return Aim::Astray;
-            }
-            Aim::Found(Target::Up(value), at + bytes)
-        }
+    let steps = number_at(text, at)?;
+    if steps.value == 0 {
+        return None;
     }
+    Some(Aim {
+        target: Target::Up(steps.value),
+        next: at + steps.bytes,
+    })
 }
 
-pub fn target_at(text: &[u8], at: usize) -> Aim
+// A number or `-` and a number.
+pub fn target_at(text: &[u8], at: usize) -> Option<Aim>
     requires { at ≤ length text.now }
     ensures { Aims text.now at result }
 {
     if text.len() <= at {
-        return Aim::Astray;
+        return None;
     }
-    if text[at] == 45 {
+    if text[at] == b'-' {
         return steps_at(text, at + 1);
     }
     place_at(text, at)

@@ -14,7 +14,7 @@ use Rattle.sling.specs.Printed.{bytes, item_bytes}
 use Rattle.sling.proofs.Places.{On, place-more, on-more}
 use Rattle.writing.specs.Shown.{digit_after, size, At}
 use Rattle.writing.proofs.Bytes.{bytes-last}
-use Rattle.writing.proofs.Served.{put_hs-last}
+use Rattle.writing.proofs.Serving.{put_hs-last}
 
 pub record Further (w v : Written) : Type 0 where
   pub more : size w ≤ size v
@@ -50,6 +50,13 @@ further_put s k m w =
 pub further_close : (s m : ℕ) (w : Written) → Further w (close s m w)
 unfolding close
 further_close s m w = record { more = omega (arith, size-last w.items (ring m (at (place_in w.ranks s)))); kept = λ r p a. a }
+
+-- where a stroke fits, the atom's place before it does
+pub serve_before-put : (r s k m : ℕ) (w : Written) → size (put s k m (serve r w)) ≤ 2048 → size (serve r w) ≤ 2048
+serve_before-put r s k m w h = let f = (further_put s k m (serve r w)).more in omega arith
+
+pub serve_before-close : (r s m : ℕ) (w : Written) → size (close s m (serve r w)) ≤ 2048 → size (serve r w) ≤ 2048
+serve_before-close r s m w h = let f = (further_close s m (serve r w)).more in omega arith
 
 pub further_hs : (h r : ℕ) (w : Written) → Further w (put_hs h r w)
 unfolding put_hs

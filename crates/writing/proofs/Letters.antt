@@ -1,49 +1,42 @@
--- The pen and the buffer after one item more.
-use mathlib.Core.Bool.{Bool, true, false, true≢false}
+-- The pen after one item more.
+use mathlib.Core.Bool.{Bool, true, false}
 use mathlib.Core.List.{List, [], ◌∷◌, ◌++◌}
 use mathlib.Core.Path.{◌≡◌, refl, sym, ap, ◌∙◌, subst}
 use Prim.Native.Nat.{ℕ, ◌+◌, ◌<◌, ◌≤◌}
 use native.Mathlib.Omega.{arith}
 use native.Mathlib.Numerals.{add-one}
 use lib.ListN.{length, length-append}
-use lib.Seq.{length-take-le}
-use borrow.Author.Tests.{eq-eqb, ne_eqb, ltb-true}
+use borrow.Author.Tests.{eq-eqb, ne_eqb}
 use Rattle.sling.specs.Items.{Item, at, atom, reference, ring}
 use Rattle.sling.specs.Walk.{Written, place_in, serve, put, close, put_hs}
 use Rattle.sling.specs.Printed.{bytes, item_bytes, ends_in_digit, mark_bytes, symbol_bytes, decimal}
-use Rattle.writing.specs.declared.Pen.{Pen}
-use Rattle.writing.specs.Added.{Room, Added}
+use Rattle.writing.specs.declared.strokes.Pen.{Pen}
+use Rattle.writing.specs.Room.{Room}
 use Rattle.writing.specs.Shown.{digit_after, size, At, Lettered}
-use Rattle.writing.proofs.Bytes.{added-as, bytes-last, digit-last, symbol-some}
-use Rattle.writing.proofs.Served.{put_hs-last}
+use Rattle.writing.proofs.Bytes.{bytes-last, digit-last, symbol-some}
+use Rattle.writing.proofs.Serving.{put_hs-last}
 use Rattle.writing.proofs.Further.{size-last}
 
-pub letters_size : (b : List ℕ) (p : Pen) (w : Written) → Lettered b p w → p.length ≡ size w
-letters_size b p w l = sym (length-take-le p.length b (omega (arith, l.long, l.room))) ∙ ap length l.text
-
--- a place that is written has a byte, so that it is below 2,048
-pub place-small : (b : List ℕ) (p : Pen) (w : Written) (r q : ℕ) → Lettered b p w → At w r q → q < 2048
-place-small b p w r q l a = let h : place_in w.ranks r < length w.ranks = ltb-true _ _ a.0 in omega (arith, l.few, l.room, a.1)
+pub letters_size : (p : Pen) (w : Written) → Lettered p w → length p.name ≡ size w
+letters_size p w l = ap length l.text
 
 -- what is left to show of one item more
 pub record Next (p q : Pen) (w v : Written) (i : Item) : Type 0 where
   pub items : v.items ≡ w.items ++ (i ∷ [])
   pub digit : q.digit ≡ ends_in_digit i
-  pub next : q.next.0 ≡ length v.ranks
-  pub cursor : q.cursor.0 ≡ v.cursor
-  pub few : length v.ranks ≤ q.length
+  pub next : q.next ≡ length v.ranks
+  pub cursor : q.cursor ≡ v.cursor
+  pub few : length v.ranks ≤ length q.name
 
-pub letters_more : (b b' : List ℕ) (p q : Pen) (w v : Written) (i : Item) → Lettered b p w → Added b b' p.length q.length (item_bytes p.digit i)
-    → Next p q w v i → size v ≤ 2048 → Lettered b' q v
-letters_more b b' p q w v i l a n h =
-    let e : size v ≡ size w + length (item_bytes (digit_after false w.items) i) = ap (λ (x : List Item). length (bytes false x)) n.items ∙ size-last w.items i in
-    let s : length (item_bytes p.digit i) ≡ length (item_bytes (digit_after false w.items) i) = ap (λ (d : Bool). length (item_bytes d i)) l.digit in
+pub letters_more : (p q : Pen) (w v : Written) (i : Item) → Lettered p w → q.name ≡ p.name ++ item_bytes p.digit i → Next p q w v i
+    → size v ≤ 2048 → Lettered q v
+letters_more p q w v i l a n h =
+    let t : q.name ≡ bytes false v.items =
+    a ∙ ap (λ (x : List ℕ). x ++ item_bytes p.digit i) l.text ∙ ap (λ (d : Bool). bytes false w.items ++ item_bytes d i) l.digit
+    ∙ sym (bytes-last false w.items i) ∙ ap (bytes false) (sym n.items) in
     record {
-      long = a.long;
-      room = omega (arith, a.end, letters_size b p w l);
-      text =
-          a.is ∙ ap (λ (x : List ℕ). x ++ item_bytes p.digit i) l.text ∙ ap (λ (d : Bool). bytes false w.items ++ item_bytes d i) l.digit
-          ∙ sym (bytes-last false w.items i) ∙ ap (bytes false) (sym n.items);
+      room = omega (arith, ap length t);
+      text = t;
       digit = n.digit ∙ sym (digit-last false w.items i) ∙ ap (digit_after false) (sym n.items);
       next = n.next;
       cursor = n.cursor;
@@ -61,17 +54,7 @@ module _ (r : ℕ) (w : Written) where
   unfolding serve
   serve-goes n = simp (ne_eqb _ _ n)
 
--- a reference with and without its sign
-pub plus-bytes : (d : Bool) (p : ℕ) → d ≡ true → item_bytes d (reference (at p)) ≡ 43 ∷ decimal p
-unfolding item_bytes
-plus-bytes true p e = refl
-plus-bytes false p e = absurd (true≢false (sym e))
-
-pub plain_bytes : (d : Bool) (p : ℕ) → d ≡ false → item_bytes d (reference (at p)) ≡ decimal p
-unfolding item_bytes
-plain_bytes true p e = absurd (true≢false e)
-plain_bytes false p e = refl
-
+-- an item's bytes
 pub atom-bytes : (d : Bool) (m k : ℕ) → item_bytes d (atom m k) ≡ mark_bytes m ++ symbol_bytes k
 unfolding item_bytes
 atom-bytes d m k = refl
@@ -83,60 +66,64 @@ ring-bytes d m p = refl
 pub atom-some : (m k : ℕ) → 0 < length (mark_bytes m ++ symbol_bytes k)
 atom-some m k = rw (length-append (mark_bytes m) (symbol_bytes k)) (omega (arith, symbol-some k))
 
-module _ (b : List ℕ) (p : Pen) (w : Written) (l : Lettered b p w) where
+module _ (p : Pen) (w : Written) (l : Lettered p w) where
   -- the bytes of one item more fit
-  room-item : (i : Item) (v : Written) → v.items ≡ w.items ++ (i ∷ []) → size v ≤ 2048 → Room b p.length (item_bytes p.digit i)
+  room-item : (i : Item) (v : Written) → v.items ≡ w.items ++ (i ∷ []) → size v ≤ 2048 → Room p.name (item_bytes p.digit i)
   room-item i v e h =
       let s : size v ≡ size w + length (item_bytes (digit_after false w.items) i) = ap (λ (x : List Item). length (bytes false x)) e ∙ size-last w.items i in
       let d : length (item_bytes p.digit i) ≡ length (item_bytes (digit_after false w.items) i) = ap (λ (z : Bool). length (item_bytes z i)) l.digit in
-      record { long = l.long; fits = omega (arith, letters_size b p w l) }
+      omega (arith, letters_size p w l)
 
   -- to serve the atom of rank r, at place q
   module _ (r q : ℕ) (a : At w r q) where
-    pub letters_stays : p.cursor.0 ≡ q → Lettered b p (serve r w)
-    letters_stays e = subst (Lettered b p) (sym (serve-stays r w (sym l.cursor ∙ e ∙ a.1))) l
+    pub letters_stays : p.cursor ≡ q → Lettered p (serve r w)
+    letters_stays e = subst (Lettered p) (sym (serve-stays r w (sym l.cursor ∙ e ∙ a.1))) l
 
-    module _ (n : p.cursor.0 ≡ q → ⊥) (h : size (serve r w) ≤ 2048) where
+    module _ (n : p.cursor ≡ q → ⊥) (h : size (serve r w) ≤ 2048) where
       moved : w.cursor ≡ place_in w.ranks r → ⊥
       moved e = n (l.cursor ∙ e ∙ sym a.1)
 
       items-moved : (serve r w).items ≡ w.items ++ (reference (at q) ∷ [])
       items-moved = ap (λ (v : Written). v.items) (serve-goes r w moved) ∙ ap (λ (x : ℕ). w.items ++ (reference (at x) ∷ [])) (sym a.1)
 
-      pub serve-room : Room b p.length (item_bytes p.digit (reference (at q)))
+      pub serve-room : Room p.name (item_bytes p.digit (reference (at q)))
       serve-room = room-item (reference (at q)) (serve r w) items-moved h
 
-      pub letters_goes : (b' : List ℕ) (p' : Pen) → Added b b' p.length p'.length (item_bytes p.digit (reference (at q)))
-          → p'.next.0 ≡ p.next.0 → p'.cursor.0 ≡ q → p'.digit ≡ true → Lettered b' p' (serve r w)
-      letters_goes b' p' x e f g =
+      pub letters_goes : (p' : Pen) → p'.name ≡ p.name ++ item_bytes p.digit (reference (at q)) → p'.next ≡ p.next → p'.cursor ≡ q → p'.digit ≡ true
+          → Lettered p' (serve r w)
+      letters_goes p' x e f g =
           let same : (serve r w).ranks ≡ w.ranks = ap (λ (v : Written). v.ranks) (serve-goes r w moved) in
-          letters_more b b' p p' w (serve r w) (reference (at q)) l x
+          letters_more p p' w (serve r w) (reference (at q)) l x
           (record {
             items = items-moved;
             digit = g;
             next = e ∙ l.next ∙ sym (ap length same);
             cursor = f ∙ a.1 ∙ sym (ap (λ (v : Written). v.cursor) (serve-goes r w moved));
-            few = omega (arith, l.few, x.end, ap length same);
+            few = omega (arith, l.few, ap length x, length-append p.name (item_bytes p.digit (reference (at q))), ap length same);
           }) h
 
   -- to put an atom of rank s and kind k behind a bond of code m
   module _ (s k m : ℕ) (h : size (put s k m w) ≤ 2048) where
-    pub put-room : Room b p.length (mark_bytes m ++ symbol_bytes k)
+    pub put-room : Room p.name (mark_bytes m ++ symbol_bytes k)
     unfolding put
-    put-room = subst (Room b p.length) (atom-bytes p.digit m k) (room-item (atom m k) (put s k m w) refl h)
+    put-room = subst (Room p.name) (atom-bytes p.digit m k) (room-item (atom m k) (put s k m w) refl h)
 
-    pub letters_put : (b' : List ℕ) (p' : Pen) → Added b b' p.length p'.length (mark_bytes m ++ symbol_bytes k)
-        → p'.next.0 ≡ p.next.0 + 1 → p'.cursor.0 ≡ p.next.0 → p'.digit ≡ false → Lettered b' p' (put s k m w)
+    -- so that there is a place for it
+    pub put-next : p.next < 2048
+    put-next = omega (arith, l.next, l.few, put-room, atom-some m k)
+
+    pub letters_put : (p' : Pen) → p'.name ≡ p.name ++ (mark_bytes m ++ symbol_bytes k) → p'.next ≡ p.next + 1 → p'.cursor ≡ p.next → p'.digit ≡ false
+        → Lettered p' (put s k m w)
     unfolding put
-    letters_put b' p' x e f g =
+    letters_put p' x e f g =
         let n = length-append w.ranks (s ∷ []) in
-        letters_more b b' p p' w (put s k m w) (atom m k) l (added-as (atom-bytes p.digit m k) x)
+        letters_more p p' w (put s k m w) (atom m k) l (x ∙ ap (λ (b : List ℕ). p.name ++ b) (sym (atom-bytes p.digit m k)))
         (record {
           items = refl;
           digit = g;
           next = omega (arith, l.next);
           cursor = f ∙ l.next;
-          few = omega (arith, l.few, x.end, atom-some m k);
+          few = omega (arith, l.few, ap length x, length-append p.name (mark_bytes m ++ symbol_bytes k), atom-some m k);
         }) h
 
   -- to close a ring to the atom of rank s, at place q
@@ -145,16 +132,22 @@ module _ (b : List ℕ) (p : Pen) (w : Written) (l : Lettered b p w) where
     unfolding close
     items-closed = ap (λ (x : ℕ). w.items ++ (ring m (at x) ∷ [])) (sym a.1)
 
-    pub close-room : Room b p.length (mark_bytes m ++ (47 ∷ decimal q))
-    close-room = subst (Room b p.length) (ring-bytes p.digit m q) (room-item (ring m (at q)) (close s m w) items-closed h)
+    pub close-room : Room p.name (mark_bytes m ++ (47 ∷ decimal q))
+    close-room = subst (Room p.name) (ring-bytes p.digit m q) (room-item (ring m (at q)) (close s m w) items-closed h)
 
-    pub letters_close : (b' : List ℕ) (p' : Pen) → Added b b' p.length p'.length (mark_bytes m ++ (47 ∷ decimal q))
-        → p'.next.0 ≡ p.next.0 → p'.cursor.0 ≡ q → p'.digit ≡ true → Lettered b' p' (close s m w)
+    pub letters_close : (p' : Pen) → p'.name ≡ p.name ++ (mark_bytes m ++ (47 ∷ decimal q)) → p'.next ≡ p.next → p'.cursor ≡ q → p'.digit ≡ true
+        → Lettered p' (close s m w)
     unfolding close
-    letters_close b' p' x e f g =
-        letters_more b b' p p' w (close s m w) (ring m (at q)) l (added-as (ring-bytes p.digit m q) x)
-        (record { items = items-closed; digit = g; next = e ∙ l.next; cursor = f ∙ a.1; few = omega (arith, l.few, x.end) }) h
+    letters_close p' x e f g =
+        letters_more p p' w (close s m w) (ring m (at q)) l (x ∙ ap (λ (b : List ℕ). p.name ++ b) (sym (ring-bytes p.digit m q)))
+        (record {
+          items = items-closed;
+          digit = g;
+          next = e ∙ l.next;
+          cursor = f ∙ a.1;
+          few = omega (arith, l.few, ap length x, length-append p.name (mark_bytes m ++ (47 ∷ decimal q)));
+        }) h
 
 -- a hydrogen more
-pub letters_hydrogen : {b : List ℕ} {p : Pen} (h r : ℕ) (w : Written) → Lettered b p (put 0 0 1 (serve r (put_hs h r w))) → Lettered b p (put_hs (h + 1) r w)
-letters_hydrogen {b} {p} h r w l = subst (Lettered b p) (sym (put_hs-last h r w) ∙ ap (λ (k : ℕ). put_hs k r w) (sym (add-one h))) l
+pub letters_hydrogen : {p : Pen} (h r : ℕ) (w : Written) → Lettered p (put 0 0 1 (serve r (put_hs h r w))) → Lettered p (put_hs (h + 1) r w)
+letters_hydrogen {p} h r w l = subst (Lettered p) (sym (put_hs-last h r w) ∙ ap (λ (k : ℕ). put_hs k r w) (sym (add-one h))) l

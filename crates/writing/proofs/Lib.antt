@@ -1,6 +1,6 @@
 pub mod Bytes
 pub mod Symbols
-pub mod Served
+pub mod Serving
 pub mod Further
 pub mod Letters
 pub mod Notes

@@ -16,8 +16,9 @@ use Rattle.molecule.specs.Bonds.{Bond, joins}
 use Rattle.sling.specs.Walk.{Written, place_in, is_traced, put_hs}
 use Rattle.lists.proofs.Tested.{some-snoc}
 use Rattle.sling.proofs.Places.{On, place-more, on-more, place-new, on-new, on-cases, places-differ}
-use Rattle.writing.specs.Shown.{Noted, marked}
-use Rattle.writing.proofs.Served.{put_at, close_at, put-served}
+use Rattle.std.specs.Prelude.{Option, Some, None}
+use Rattle.writing.specs.Shown.{Noted, marked, held}
+use Rattle.writing.proofs.Serving.{put_at, close_at, put-served}
 
 -- where a rank is not written, its place is past all that are
 far : (l : List ℕ) (x : ℕ) → (On l x → ⊥) → length l ≤ place_in l x
@@ -86,26 +87,22 @@ joins-ranks : (l : List ℕ) (r s x y m : ℕ) → On l r → On l s
     → joins (place_in l x) (place_in l y) (record { one = place_in l r; two = place_in l s; code = m }) ≡ (eqb r x && eqb s y || eqb r y && eqb s x)
 joins-ranks l r s x y m o k = rw (place-eq l r x o, place-eq l s y k, place-eq l r y o, place-eq l s x k)
 
--- what the walk keeps of a rank's place
-abbrev held : List ℕ → ℕ → ℕ
-held l x = cond (ltb (place_in l x) (length l)) (place_in l x) 65535
-
-held_on : (l : List ℕ) (x : ℕ) → On l x → held l x ≡ place_in l x
+held_on : (l : List ℕ) (x : ℕ) → On l x → held l x ≡ Some (place_in l x)
 held_on l x o = rw (lt-ltb _ _ o)
 
-held-off : (l : List ℕ) (x : ℕ) → length l ≤ place_in l x → held l x ≡ 65535
+held-off : (l : List ℕ) (x : ℕ) → length l ≤ place_in l x → held l x ≡ None
 held-off l x h = rw (le-ltb _ _ h)
 
 held-other : (l : List ℕ) (s x : ℕ) → (x ≡ s → ⊥) → held (l ++ (s ∷ [])) x ≡ held l x
 held-other l s x n = pick (either l x)
   where
     pick : Either l x → held (l ++ (s ∷ [])) x ≡ held l x
-    pick (yes o) = held_on (l ++ (s ∷ [])) x (on-more l (s ∷ []) x o) ∙ place-more l (s ∷ []) x o ∙ sym (held_on l x o)
+    pick (yes o) = held_on (l ++ (s ∷ [])) x (on-more l (s ∷ []) x o) ∙ ap Some (place-more l (s ∷ []) x o) ∙ sym (held_on l x o)
     pick (no k h) =
         held-off (l ++ (s ∷ [])) x (far (l ++ (s ∷ [])) x (λ o. ⊎_elim k n (on-cases l s x o))) ∙ sym (held-off l x h)
 
-held_new : (l : List ℕ) (s : ℕ) → (On l s → ⊥) → held (l ++ (s ∷ [])) s ≡ length l
-held_new l s n = held_on (l ++ (s ∷ [])) s (on-new l s) ∙ place-new l s n
+held_new : (l : List ℕ) (s : ℕ) → (On l s → ⊥) → held (l ++ (s ∷ [])) s ≡ Some (length l)
+held_new l s n = held_on (l ++ (s ∷ [])) s (on-new l s) ∙ ap Some (place-new l s n)
 
 -- the two cells of a pair of atoms
 cell_eq : (a b c e : ℕ) → b < 64 → e < 64 → eqb (64 * a + b) (64 * c + e) ≡ (eqb a c && eqb b e)
@@ -116,22 +113,22 @@ cell_eq a b c e h k = pick (eqb a c) refl (eqb b e) refl
     pick true f false g = rw (f, g) (ne_eqb _ _ (λ (z : 64 * a + b ≡ 64 * c + e). eqb-false b e g (let x = eqb-true a c f in omega arith)))
     pick false f q g = rw f (ne_eqb _ _ (λ (z : 64 * a + b ≡ 64 * c + e). eqb-false a c f (omega arith)))
 
-set_at : (l : List ℕ) (i k x : ℕ) → i < length l → get_or (set l i x) k 0 ≡ cond (eqb i k) x (get_or l k 0)
+set_at : (l : List Bool) (i k : ℕ) (x : Bool) → i < length l → get_or (set l i x) k false ≡ cond (eqb i k) x (get_or l k false)
 set_at l i k x h = pick (eqb i k) refl
   where
-    pick : (b : Bool) → eqb i k ≡ b → get_or (set l i x) k 0 ≡ cond (eqb i k) x (get_or l k 0)
-    pick true e = rw (e, ← (eqb-true i k e)) (get_or-set_same l i x 0 h)
-    pick false e = rw e (get_or-set_other l i k x 0 (λ z. eqb-false i k e (sym z)))
+    pick : (b : Bool) → eqb i k ≡ b → get_or (set l i x) k false ≡ cond (eqb i k) x (get_or l k false)
+    pick true e = rw (e, ← (eqb-true i k e)) (get_or-set_same l i x false h)
+    pick false e = rw e (get_or-set_other l i k x false (λ z. eqb-false i k e (sym z)))
 
-flag : (p q t : Bool) (x : ℕ) → x ≡ cond t 1 0 → cond q 1 (cond p 1 x) ≡ cond (t || (p || q)) 1 0
-flag true true true x e = refl
-flag true true false x e = refl
-flag true false true x e = refl
-flag true false false x e = refl
-flag false true true x e = refl
-flag false true false x e = refl
-flag false false true x e = e
-flag false false false x e = e
+flag : (p q t : Bool) → cond q true (cond p true t) ≡ (t || (p || q))
+flag true true true = refl
+flag true true false = refl
+flag true false true = refl
+flag true false false = refl
+flag false true true = refl
+flag false true false = refl
+flag false false true = refl
+flag false false false = refl
 
 both_ways : (a b c e : Bool) → (a && b || c && e) ≡ (a && b || e && c)
 both_ways true true c e = refl
@@ -144,18 +141,19 @@ both_ways false b true false = refl
 both_ways false b false true = refl
 both_ways false b false false = refl
 
-pub marked-long : (tr : List ℕ) (a b : ℕ) → length tr ≡ 4096 → length (marked tr a b) ≡ 4096
-marked-long tr a b e = length-set {A = ℕ} (set tr (64 * a + b) 1) (64 * b + a) 1 ∙ length-set {A = ℕ} tr (64 * a + b) 1 ∙ e
+pub marked-long : (tr : List Bool) (a b : ℕ) → length tr ≡ 4096 → length (marked tr a b) ≡ 4096
+marked-long tr a b e = length-set {A = Bool} (set tr (64 * a + b) true) (64 * b + a) true ∙ length-set {A = Bool} tr (64 * a + b) true ∙ e
 
-marked-at : (tr : List ℕ) (a b c e : ℕ) (t : Bool) → length tr ≡ 4096 → a < 64 → b < 64 → c < 64 → e < 64 → get_or tr (64 * c + e) 0 ≡ cond t 1 0
-    → get_or (marked tr a b) (64 * c + e) 0 ≡ cond (t || (eqb (suc a) (suc c) && eqb (suc b) (suc e) || eqb (suc a) (suc e) && eqb (suc b) (suc c))) 1 0
+pub marked-at : (tr : List Bool) (a b c e : ℕ) (t : Bool) → length tr ≡ 4096 → a < 64 → b < 64 → c < 64 → e < 64 → get_or tr (64 * c + e) false ≡ t
+    → get_or (marked tr a b) (64 * c + e) false ≡ (t || (eqb (suc a) (suc c) && eqb (suc b) (suc e) || eqb (suc a) (suc e) && eqb (suc b) (suc c)))
 marked-at tr a b c e t long ha hb hc he g =
-    set_at (set tr (64 * a + b) 1) (64 * b + a) (64 * c + e) 1 (rw (length-set tr (64 * a + b) 1) (omega arith))
-    ∙ ap (cond (eqb (64 * b + a) (64 * c + e)) 1) (set_at tr (64 * a + b) (64 * c + e) 1 (omega arith))
+    set_at (set tr (64 * a + b) true) (64 * b + a) (64 * c + e) true (rw (length-set tr (64 * a + b) true) (omega arith))
+    ∙ ap (cond (eqb (64 * b + a) (64 * c + e)) true) (set_at tr (64 * a + b) (64 * c + e) true (omega arith))
+    ∙ ap (λ (z : Bool). cond (eqb (64 * b + a) (64 * c + e)) true (cond (eqb (64 * a + b) (64 * c + e)) true z)) g
     ∙ rw (cell_eq a b c e hb he, cell_eq b a c e ha he, eqb-suc-suc a c, eqb-suc-suc b e, eqb-suc-suc a e, eqb-suc-suc b c)
-    (flag (eqb a c && eqb b e) (eqb b c && eqb a e) t _ g ∙ ap (λ (z : Bool). cond {A = ℕ} (t || z) 1 0) (both_ways (eqb a c) (eqb b e) (eqb b c) (eqb a e)))
+    (flag (eqb a c && eqb b e) (eqb b c && eqb a e) t ∙ ap (λ (z : Bool). t || z) (both_ways (eqb a c) (eqb b e) (eqb b c) (eqb a e)))
 
-module _ (n : ℕ) (small : n ≤ 64) (pl tr : List ℕ) (w : Written) (N : Noted n pl tr w) where
+module _ (n : ℕ) (small : n ≤ 64) (pl : List (Option ℕ)) (tr : List Bool) (w : Written) (N : Noted n pl tr w) where
   -- a hydrogen is no rank
   pub noted_hydrogen : (r : ℕ) → On w.ranks r → Noted n pl tr (put_at r 0 0 1 w)
   noted_hydrogen r o =
@@ -164,7 +162,7 @@ module _ (n : ℕ) (small : n ≤ 64) (pl tr : List ℕ) (w : Written) (N : Note
         places_long = N.places_long;
         traced_long = N.traced_long;
         place = λ a h. N.place a h ∙ sym (held-other l 0 (suc a) (λ e. omega arith));
-        bond = λ a b h k. N.bond a b h k ∙ ap (λ (t : Bool). cond {A = ℕ} t 1 0) (sym (apart a b));
+        bond = λ a b h k. N.bond a b h k ∙ sym (apart a b);
         inside = inside-more l (0 ∷ []) w.bonds _ N.inside (let e = length-append l (0 ∷ []) in (omega arith, omega arith));
       }
     where
@@ -185,17 +183,17 @@ module _ (n : ℕ) (small : n ≤ 64) (pl tr : List ℕ) (w : Written) (N : Note
 
   -- a neighbour put
   pub noted_put : (a b k m : ℕ) → a < n → b < n → On w.ranks (suc a) → (On w.ranks (suc b) → ⊥)
-      → Noted n (set pl b (length w.ranks)) (marked tr a b) (put_at (suc a) (suc b) k m w)
+      → Noted n (set pl b (Some (length w.ranks))) (marked tr a b) (put_at (suc a) (suc b) k m w)
   noted_put a b k m ha hb o u =
       let l = w.ranks in
       let e = length-append l (suc b ∷ []) in
       record {
-        places_long = length-set pl b (length l) ∙ N.places_long;
+        places_long = length-set pl b (Some (length l)) ∙ N.places_long;
         traced_long = marked-long tr a b N.traced_long;
         place = λ c h. put-place c h;
         bond = λ c d h j.
             marked-at tr a b c d (is_traced w (suc c) (suc d)) N.traced_long (omega arith) (omega arith) (omega arith) (omega arith) (N.bond c d h j)
-            ∙ ap (λ (t : Bool). cond {A = ℕ} t 1 0) (sym (put-bond c d));
+            ∙ sym (put-bond c d);
         inside = inside-more l (suc b ∷ []) w.bonds _ N.inside (omega arith, omega arith);
       }
     where
@@ -207,15 +205,15 @@ module _ (n : ℕ) (small : n ≤ 64) (pl tr : List ℕ) (w : Written) (N : Note
           (rw (← (place-new w.ranks (suc b) u), ← (place-more w.ranks (suc b ∷ []) (suc a) o))
           (joins-ranks (w.ranks ++ (suc b ∷ [])) (suc a) (suc b) (suc c) (suc d) m (on-more w.ranks (suc b ∷ []) (suc a) o) (on-new w.ranks (suc b))))
 
-      put-place : (c : ℕ) → c < n → get_or (set pl b (length w.ranks)) c 0 ≡ held (w.ranks ++ (suc b ∷ [])) (suc c)
+      put-place : (c : ℕ) → c < n → get_or (set pl b (Some (length w.ranks))) c None ≡ held (w.ranks ++ (suc b ∷ [])) (suc c)
       put-place c h = pick (eqb b c) refl
         where
-          pick : (z : Bool) → eqb b c ≡ z → get_or (set pl b (length w.ranks)) c 0 ≡ held (w.ranks ++ (suc b ∷ [])) (suc c)
+          pick : (z : Bool) → eqb b c ≡ z → get_or (set pl b (Some (length w.ranks))) c None ≡ held (w.ranks ++ (suc b ∷ [])) (suc c)
           pick true z =
               rw (← (eqb-true b c z))
-              (get_or-set_same pl b (length w.ranks) 0 (omega (arith, N.places_long)) ∙ sym (held_new w.ranks (suc b) u))
+              (get_or-set_same pl b (Some (length w.ranks)) None (omega (arith, N.places_long)) ∙ sym (held_new w.ranks (suc b) u))
           pick false z =
-              get_or-set_other pl b c (length w.ranks) 0 (λ y. eqb-false b c z (sym y)) ∙ N.place c h
+              get_or-set_other pl b c (Some (length w.ranks)) None (λ y. eqb-false b c z (sym y)) ∙ N.place c h
               ∙ sym (held-other w.ranks (suc b) (suc c) (λ y. eqb-false b c z (omega arith)))
 
   -- a ring closed
@@ -227,7 +225,7 @@ module _ (n : ℕ) (small : n ≤ 64) (pl tr : List ℕ) (w : Written) (N : Note
         place = N.place;
         bond = λ c d h j.
             marked-at tr a b c d (is_traced w (suc c) (suc d)) N.traced_long (omega arith) (omega arith) (omega arith) (omega arith) (N.bond c d h j)
-            ∙ ap (λ (t : Bool). cond {A = ℕ} t 1 0) (sym (close-bond c d));
+            ∙ sym (close-bond c d);
         inside = λ c i.
             ⊎_elim (λ q. N.inside c q) (λ q. subst (λ (z : Bond). (z.one < length w.ranks) × (z.two < length w.ranks)) (sym (Memᴰ.eq_of_singleton q)) (o, u)) (Memᴰ.append_cases w.bonds i);
       }
@@ -239,7 +237,7 @@ module _ (n : ℕ) (small : n ≤ 64) (pl tr : List ℕ) (w : Written) (N : Note
           ∙ ap (λ (t : Bool). is_traced w (suc c) (suc d) || t) (joins-ranks w.ranks (suc a) (suc b) (suc c) (suc d) m o u)
 
 -- an atom's hydrogens
-pub noted_hs : (n : ℕ) → n ≤ 64 → (pl tr : List ℕ) (h r : ℕ) (w : Written) → On w.ranks r → Noted n pl tr w → Noted n pl tr (put_hs h r w)
+pub noted_hs : (n : ℕ) → n ≤ 64 → (pl : List (Option ℕ)) (tr : List Bool) (h r : ℕ) (w : Written) → On w.ranks r → Noted n pl tr w → Noted n pl tr (put_hs h r w)
 unfolding put_hs
 noted_hs n small pl tr zero r w o N = N
 noted_hs n small pl tr (suc h) r w o N =

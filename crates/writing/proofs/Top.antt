@@ -1,53 +1,84 @@
 -- The first atom written, the walk begun, and what the walk's end says of the name.
-use mathlib.Core.Bool.{false, cond}
+use mathlib.Core.Bool.{Bool, false}
 use mathlib.Core.List.Memᴰ
 use mathlib.Core.List.{List, [], ◌∷◌, append-nil}
-use mathlib.Core.Path.{◌≡◌, refl, sym, ap, ◌∙◌}
+use mathlib.Core.Path.{◌≡◌, refl, sym, ap, subst, ◌∙◌}
 use Prim.Native.Nat.{ℕ, zero, suc, ◌+◌, ◌*◌, ◌<◌, ◌≤◌}
 use native.Mathlib.Omega.{arith}
 use lib.ListN.{length, get_or, set, replicate, length-set, length-replicate, get_or-replicate}
 use borrow.Author.Tests.{ne_eqb}
 use Rattle.lists.specs.Tests.{some}
-use Rattle.molecule.specs.Molecule.{Molecule}
 use Rattle.molecule.proofs.Sound.{Sound}
 use Rattle.sling.specs.Items.{atom}
-use Rattle.sling.specs.Walk.{place_in, is_written, finish, first, written}
+use Rattle.sling.specs.Walk.{finish, written}
 use Rattle.sling.specs.Printed.{symbol_bytes, item_bytes, bytes, name_bytes}
 use Rattle.table.specs.declared.Table.{Table}
 use Rattle.table.specs.Arrays.{as_molecule}
 use Rattle.table.specs.View.{arrays_of, view_of, TidyTable}
 use Rattle.table.proofs.Views.{neighbours-row, code-slot}
-use Rattle.writing.specs.declared.Pen.{Pen}
-use Rattle.writing.specs.Added.{Room, Added}
-use Rattle.writing.specs.Shown.{size, Lettered, Noted}
-use Rattle.writing.specs.Lent.{Columns, Lent, Sheet, Shows, Finishing}
+use Rattle.std.specs.Prelude.{Option, Some, None}
+use Rattle.std.proofs.lemmas.List.{get_or_default}
+use Rattle.writing.specs.declared.Served.{Served}
+use Rattle.writing.specs.declared.strokes.Pen.{Pen}
+use Rattle.writing.specs.declared.walk.Sheet.{Sheet}
+use Rattle.writing.specs.Shown.{size, begun, held, Lettered}
+use Rattle.writing.specs.Walked.{Lent, Shows, Finishing}
 use Rattle.writing.specs.Nameable.{Nameable}
 use Rattle.writing.proofs.Bytes.{symbol-some}
 use Rattle.writing.proofs.Further.{further_finish}
-use Rattle.writing.proofs.Letters.{letters_size}
-
-abbrev pub columns_of : Table → Columns
-columns_of t = record { kinds = t.kinds; hydrogens = t.hydrogens; degrees = t.degrees; near = t.near; codes = t.codes }
 
 first-bytes : (k : ℕ) → bytes false (atom 1 k ∷ []) ≡ symbol_bytes k
 unfolding bytes item_bytes
 first-bytes k = append-nil (symbol_bytes k)
 
-abbrev pub no_places : List ℕ
-no_places = set (replicate 64 65535) 0 0
+abbrev no_places : List (Option ℕ)
+no_places = set (replicate 64 None) 0 (Some 0)
 
-first-place : (W : Molecule) (a : ℕ) → a < 64 → get_or no_places a 0 ≡ cond (is_written (first W) (suc a)) (place_in (first W).ranks (suc a)) 65535
-first-place W zero h = refl
-first-place W (suc a) h = get_or-replicate 63 a 65535 0 (omega arith) ∙ rw (ne_eqb 1 (suc (suc a)) (λ e. omega arith))
+first-place : (k a : ℕ) → a < 64 → get_or no_places a None ≡ held (begun k).ranks (suc a)
+first-place k zero h = refl
+first-place k (suc a) h = get_or-replicate 63 a None None (omega arith) ∙ rw (ne_eqb 1 (suc (suc a)) (λ e. omega arith))
+
+-- the pen and the sheet of the first atom
+pub begun-size : (k : ℕ) → size (begun k) ≡ length (symbol_bytes k)
+begun-size k = ap length (first-bytes k)
+
+pub begun-letters : (k : ℕ) (p : Pen) → size (begun k) ≤ 2048 → p.name ≡ symbol_bytes k → p.next ≡ 1 → p.cursor ≡ 0 → p.digit ≡ false → Lettered p (begun k)
+begun-letters k p h a e f g =
+    record {
+      room = omega (arith, begun-size k, ap length a);
+      text = a ∙ sym (first-bytes k);
+      digit = g;
+      next = e;
+      cursor = f;
+      few = omega (arith, ap length a, symbol-some k);
+    }
+
+pub begun-shows : (k n : ℕ) (p : Pen) → n ≤ 64 → Lettered p (begun k) → Shows n (record { pen = p; places = no_places; traced = replicate 4096 false }) (begun k)
+unfolding some
+begun-shows k n p h l =
+    record {
+      text = l;
+      notes =
+          record {
+            places_long = length-set {A = Option ℕ} (replicate 64 None) 0 (Some 0) ∙ length-replicate {A = Option ℕ} 64 None;
+            traced_long = length-replicate {A = Bool} 4096 false;
+            place = λ a i. first-place k a (omega arith);
+            bond = λ a c i j. get_or-replicate {A = Bool} 4096 (64 * a + c) false false (omega arith);
+            inside = λ c m. absurd (Memᴰ.not-nil m);
+          };
+    }
+
+abbrev pub first_served : Served
+first_served = record { atom = record { 0 = 0 }; place = 0 }
 
 module _ (t : Table) (N : Nameable t) where
-  lent : Lent (columns_of t) (view_of t)
+  lent : Lent t (view_of t)
   unfolding as_molecule
   lent =
       record {
         atoms = N.tidy.atoms;
+        kinds_long = N.tidy.kinds_long;
         kind_of = λ a h. refl;
-        known = N.known;
         hydrogens_of = λ a h. refl;
         few = N.tidy.few;
         row = λ a h. neighbours-row (arrays_of t) N.tidy a h;
@@ -56,63 +87,37 @@ module _ (t : Table) (N : Nameable t) where
         code_of = λ a p h k. code-slot (arrays_of t) N.tidy a h p k;
       }
 
-  name-size : size (finish t.n (view_of t) 1 (first (view_of t))) ≡ length (name_bytes (view_of t))
+  name-size : size (finish t.n (view_of t) 1 (begun (get_or t.kinds 0 0))) ≡ length (name_bytes (view_of t))
   unfolding as_molecule name_bytes written
   name-size = refl
 
-  pub first-room : (b : List ℕ) → length b ≡ 2048 → Room b 0 (symbol_bytes (get_or t.kinds 0 0))
+  -- the first atom's kind, whatever would be read past the last
+  first-kind : (y : ℕ) → get_or t.kinds 0 y ≡ get_or t.kinds 0 0
+  first-kind y = get_or_default t.kinds 0 y 0 (omega (arith, N.tidy.kinds_long))
+
+  pub first-room : (y : ℕ) → size (begun (get_or t.kinds 0 y)) ≤ 2048
+  first-room y =
+      let m = (further_finish t.n (view_of t) 1 (begun (get_or t.kinds 0 0))).more in
+      rw (first-kind y) (omega (arith, N.room, name-size))
+
+  pub walk_ready : (s : Sheet) (y : ℕ) → ((n : ℕ) → n ≤ 64 → Shows n s (begun (get_or t.kinds 0 y)))
+      → Finishing t s first_served t.n (view_of t) (begun (get_or t.kinds 0 0))
   unfolding as_molecule
-  first-room b e =
-      let m = (further_finish t.n (view_of t) 1 (first (view_of t))).more in
-      record { long = e; fits = omega (arith, N.room, name-size, ap length (first-bytes (get_or t.kinds 0 0))) }
-
-  pub first-known : get_or t.kinds 0 0 ≤ 24
-  first-known = N.known 0 N.some
-
-  pub walk_ready : (b b' : List ℕ) (p : Pen) → Added b b' 0 p.length (symbol_bytes (get_or t.kinds 0 0)) → p.next.0 ≡ 1 → p.cursor.0 ≡ 0 → p.digit ≡ false
-      → Finishing (columns_of t) (record { buffer = b'; places = no_places; traced = replicate 4096 0; pen = p }) 0 t.n (view_of t) (first (view_of t))
-  unfolding as_molecule some
-  walk_ready b b' p A e f g =
+  walk_ready s y S =
       record {
         lent = lent;
-        shown = record { text = text; notes = notes };
+        shown = subst (λ (k : ℕ). Shows t.n s (begun k)) (first-kind y) (S t.n N.tidy.atoms);
         atom = N.some;
-        on = (0, (refl, refl));
+        on = (refl, refl);
         room = omega (arith, N.room, name-size);
       }
-    where
-      text : Lettered b' p (first (view_of t))
-      text =
-          record {
-            long = A.long;
-            room = omega (arith, A.end, (first-room b' A.long).fits);
-            text = A.is ∙ sym (first-bytes (get_or t.kinds 0 0));
-            digit = g;
-            next = e;
-            cursor = f;
-            few = omega (arith, A.end, symbol-some (get_or t.kinds 0 0));
-          }
-
-      notes : Noted t.n no_places (replicate 4096 0) (first (view_of t))
-      notes =
-          record {
-            places_long = length-set {A = ℕ} (replicate 64 65535) 0 0 ∙ length-replicate {A = ℕ} 64 65535;
-            traced_long = length-replicate {A = ℕ} 4096 0;
-            place = λ a h. first-place (view_of t) a (omega (arith, N.tidy.atoms));
-            bond = λ a c h k. get_or-replicate {A = ℕ} 4096 (64 * a + c) 0 0 (omega (arith, N.tidy.atoms));
-            inside = λ c m. absurd (Memᴰ.not-nil m);
-          }
 
   -- the walk's end
-  module _ (s : Sheet) (S : Shows (view_of t).size s (finish t.n (view_of t) 1 (first (view_of t)))) where
-    end-size : s.pen.length ≡ length (name_bytes (view_of t))
-    end-size = letters_size s.buffer s.pen (finish t.n (view_of t) 1 (first (view_of t))) S.text ∙ name-size
-
-    pub name-added : (b : List ℕ) → Added b s.buffer 0 s.pen.length (name_bytes (view_of t))
-    unfolding as_molecule name_bytes written
-    name-added b = record { end = omega (arith, end-size); is = S.text.text; long = S.text.long }
+  pub name-whole : (s : Sheet) → Shows (view_of t).size s (finish t.n (view_of t) 1 (begun (get_or t.kinds 0 0))) → s.pen.name ≡ name_bytes (view_of t)
+  unfolding as_molecule name_bytes written
+  name-whole s S = S.text.text
 
 -- what a sound molecule's table, in rank order, brings
 pub sound-nameable : (t : Table) → TidyTable t → Sound (view_of t) → length (name_bytes (view_of t)) ≤ 2048 → Nameable t
 unfolding as_molecule
-sound-nameable t T S h = record { tidy = T; some = S.some; known = S.known; room = h }
+sound-nameable t T S h = record { tidy = T; some = S.some; room = h }

@@ -1,5 +1,4 @@
-pub mod Added
+pub mod Room
 pub mod Shown
-pub mod Strokes
-pub mod Lent
+pub mod Walked
 pub mod Nameable

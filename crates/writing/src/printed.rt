@@ -1,10 +1,29 @@
-// The bytes of an item, put into the buffer from `here` on. Each function hands back where the next byte goes.
-ghost use Rattle.std.specs.Prelude.{◌++◌, ◌∷◌, ◌≡◌, ◌+◌, ◌<◌, ◌≤◌};
+// The bytes of a name, put one item behind the other.
+ghost use Rattle.std.specs.Prelude.{[], ◌∷◌, ◌++◌, ◌≡◌, ◌+◌, ◌<◌};
 ghost use Rattle.sling.specs.Items.{at, reference};
 ghost use Rattle.sling.specs.Printed.{decimal, mark_bytes, symbol_bytes, item_bytes};
-ghost use Rattle.writing.specs.Added.{Room, Added};
+ghost use Rattle.writing.specs.Room.{Room};
 
-use crate::{Pen, Place};
+use crate::place::Place;
+use kinds::Kind;
+use std::marker::Model;
+
+// The bytes that are written, at the head of an array, since there is no heap.
+#[derive(Drop)]
+pub struct Name {
+    buffer: [u8; Name::ROOM],
+    length: usize,
+}
+
+impl Model for Name {
+    ghost use Rattle.std.specs.Prelude.{List, ℕ, ◌≤◌, take};
+
+    ghost Value = { List ℕ };
+
+    ghost view = { λ n. take n.length n.buffer };
+
+    ghost invariant = { λ n. n.length ≤ 2048 };
+}
 
 fn digit(n: u16) -> u8
     requires { n < 208 }
@@ -13,86 +32,104 @@ fn digit(n: u16) -> u8
     (48 + n) as u8
 }
 
-pub fn put_place(buffer: &mut [u8; Pen::ROOM], here: usize, place: Place) -> usize
-    requires { (place.0 < 2048) × Room buffer.old here (decimal place.0) }
-    ensures { Added buffer.old buffer.new here result (decimal place.0) }
-{
-    let n = place.0;
-    if n < 10 {
-        buffer[here] = digit(n);
-        return here + 1;
-    }
-    if n < 100 {
-        buffer[here] = digit(n / 10);
-        buffer[here + 1] = digit(n % 10);
-        return here + 2;
-    }
-    buffer[here] = digit(n / 100);
-    buffer[here + 1] = digit(n / 10 % 10);
-    buffer[here + 2] = digit(n % 10);
-    here + 3
-}
+impl Name {
+    // "2,048 bytes hold any name."
+    pub const ROOM: usize = 2048;
 
-pub fn put_mark(buffer: &mut [u8; Pen::ROOM], here: usize, code: u8) -> usize
-    requires { Room buffer.old here (mark_bytes code) }
-    ensures { Added buffer.old buffer.new here result (mark_bytes code) }
-{
-    if code == 2 {
-        buffer[here] = b'=';
-        return here + 1;
+    pub fn empty() -> Name
+        ensures { result ≡ [] }
+    {
+        Name {
+            buffer: [0u8; Name::ROOM],
+            length: 0,
+        }
     }
-    if code == 3 {
-        buffer[here] = b'*';
-        return here + 1;
-    }
-    if code == 4 {
-        buffer[here] = b'<';
-        return here + 1;
-    }
-    here
-}
 
-pub fn put_symbol(buffer: &mut [u8; Pen::ROOM], here: usize, kind: u8) -> usize
-    requires { (kind ≤ 24) × Room buffer.old here (symbol_bytes kind) }
-    ensures { Added buffer.old buffer.new here result (symbol_bytes kind) }
-{
-    let capital = kinds::capital_of(kind);
-    let small = kinds::small_of(kind);
-    if small == 0 {
-        buffer[here] = capital;
-        return here + 1;
+    pub fn bytes(&self) -> &[u8]
+        ensures { result.now ≡ self.now }
+    {
+        &self.buffer[..self.length]
     }
-    buffer[here] = b'(';
-    buffer[here + 1] = capital;
-    buffer[here + 2] = small;
-    buffer[here + 3] = b')';
-    here + 4
-}
 
-pub fn put_atom(buffer: &mut [u8; Pen::ROOM], here: usize, code: u8, kind: u8) -> usize
-    requires { (kind ≤ 24) × Room buffer.old here (mark_bytes code ++ symbol_bytes kind) }
-    ensures { Added buffer.old buffer.new here result (mark_bytes code ++ symbol_bytes kind) }
-{
-    let next = put_mark(buffer, here, code);
-    put_symbol(buffer, next, kind)
-}
-
-pub fn put_reference(buffer: &mut [u8; Pen::ROOM], here: usize, digit: bool, place: Place) -> usize
-    requires { (place.0 < 2048) × Room buffer.old here (item_bytes digit (reference (at place.0))) }
-    ensures { Added buffer.old buffer.new here result (item_bytes digit (reference (at place.0))) }
-{
-    if digit {
-        buffer[here] = b'+';
-        return put_place(buffer, here + 1, place);
+    fn put(&mut self, bytes: &[u8])
+        requires { Room self.old bytes.now }
+        ensures { self.new ≡ self.old ++ bytes.now }
+    {
+        let end = self.length + bytes.len();
+        self.buffer[self.length..end].copy_from_slice(bytes);
+        self.length = end;
     }
-    put_place(buffer, here, place)
-}
 
-pub fn put_ring(buffer: &mut [u8; Pen::ROOM], here: usize, code: u8, place: Place) -> usize
-    requires { (place.0 < 2048) × Room buffer.old here (mark_bytes code ++ 47 ∷ decimal place.0) }
-    ensures { Added buffer.old buffer.new here result (mark_bytes code ++ 47 ∷ decimal place.0) }
-{
-    let next = put_mark(buffer, here, code);
-    buffer[next] = b'/';
-    put_place(buffer, next + 1, place)
+    #[tactic(auto, unfolding(sling::specs::Printed::decimal))]
+    fn put_place(&mut self, place: Place)
+        requires { Room self.old (decimal place) }
+        ensures { self.new ≡ self.old ++ decimal place }
+    {
+        let n = place.number();
+        if n < 10 {
+            self.put(&[digit(n)]);
+            return;
+        }
+        if n < 100 {
+            self.put(&[digit(n / 10), digit(n % 10)]);
+            return;
+        }
+        self.put(&[digit(n / 100), digit(n / 10 % 10), digit(n % 10)]);
+    }
+
+    // A bond's code is the byte that the table's rows and the rules have for it.
+    fn put_mark(&mut self, code: u8)
+        requires { Room self.old (mark_bytes code) }
+        ensures { self.new ≡ self.old ++ mark_bytes code }
+    {
+        match code {
+            2 => self.put(b"="),
+            3 => self.put(b"*"),
+            4 => self.put(b"<"),
+            _ => {}
+        }
+    }
+
+    #[tactic(auto, using(crate::proofs::Symbols::symbol_one, crate::proofs::Symbols::symbol_two))]
+    pub fn put_symbol(&mut self, kind: Kind)
+        requires { Room self.old (symbol_bytes kind) }
+        ensures { self.new ≡ self.old ++ symbol_bytes kind }
+    {
+        // The number is asked for its clause, that the kind is one of the 25.
+        let _ = kind.number();
+        let capital = kind.capital();
+        match kind.small() {
+            Some(small) => self.put(&[b'(', capital, small, b')']),
+            None => self.put(&[capital]),
+        }
+    }
+
+    pub fn put_atom(&mut self, code: u8, kind: Kind)
+        requires { Room self.old (mark_bytes code ++ symbol_bytes kind) }
+        ensures { self.new ≡ self.old ++ (mark_bytes code ++ symbol_bytes kind) }
+    {
+        self.put_mark(code);
+        self.put_symbol(kind);
+    }
+
+    // The place of an atom that is gone to, with `+` where a digit stands before.
+    #[tactic(auto, unfolding(sling::specs::Printed::item_bytes))]
+    pub fn put_reference(&mut self, digit: bool, place: Place)
+        requires { Room self.old (item_bytes digit (reference (at place))) }
+        ensures { self.new ≡ self.old ++ item_bytes digit (reference (at place)) }
+    {
+        if digit {
+            self.put(b"+");
+        }
+        self.put_place(place);
+    }
+
+    pub fn put_ring(&mut self, code: u8, place: Place)
+        requires { Room self.old (mark_bytes code ++ 47 ∷ decimal place) }
+        ensures { self.new ≡ self.old ++ (mark_bytes code ++ 47 ∷ decimal place) }
+    {
+        self.put_mark(code);
+        self.put(b"/");
+        self.put_place(place);
+    }
 }

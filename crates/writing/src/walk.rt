@@ -1,99 +1,95 @@
 // What follows an atom's symbol: its hydrogens, then each neighbour whose bond is not yet traced, itself finished first.
-ghost use Rattle.std.specs.Prelude.{◌≡◌};
-ghost use Rattle.writing.specs.Lent.{columns, sheet, Finishable, Finished, Traceable, Traced};
+ghost use Rattle.std.specs.Prelude.{◌≡◌, ◌<◌, ◌≤◌, ℕ};
+ghost use Rattle.writing.specs.Shown.{size, begun, marked};
+ghost use Rattle.writing.specs.Walked.{Shows, Finishable, Finished, Traceable, Traced};
 
-use crate::{Bond, Pen, Place, strokes};
+use crate::Served;
+use crate::place::Place;
+use crate::strokes::Pen;
+use kinds::Kind;
 use table::{AtomNo, Table};
 
-// The depth bounds how deep atoms hang from each other.
-#[cycle(finish_trace)]
-pub fn finish<'a>(
-    kinds: &'a [u8; Table::MAX_ATOMS],
-    hydrogens: &'a [u8; Table::MAX_ATOMS],
-    degrees: &'a [u8; Table::MAX_ATOMS],
-    near: &'a [u8; Table::SLOTS],
-    codes: &'a [u8; Table::SLOTS],
-    buffer: &mut [u8; Pen::ROOM],
-    places: &mut [u16; Table::MAX_ATOMS],
-    traced: &mut [u8; Pen::PAIRS],
-    atom: AtomNo,
-    depth: usize,
-    pen: Pen,
-) -> Pen
-    requires { Finishable (columns kinds.now hydrogens.now degrees.now near.now codes.now) (sheet buffer.old places.old traced.old pen) atom.0 depth }
-    ensures { Finished (columns kinds.now hydrogens.now degrees.now near.now codes.now) (sheet buffer.old places.old traced.old pen) (sheet buffer.new places.new traced.new result) atom.0 depth }
+// What the walk keeps: the pen with what it wrote, the place of each atom that is written, and for each two atoms whether their bond is traced.
+#[derive(Drop)]
+pub struct Sheet {
+    pub pen: Pen,
+    pub places: [Option<Place>; Table::MAX_ATOMS],
+    pub traced: [bool; Sheet::PAIRS],
+}
+
+// The bond of two atoms is traced, from whichever it is looked at.
+fn mark(traced: &mut [bool; Sheet::PAIRS], one: AtomNo, two: AtomNo)
+    requires { (one.0 < 64) × (two.0 < 64) }
+    ensures { traced.new ≡ marked traced.old one.0 two.0 }
 {
-    if depth == 0 {
-        return pen;
-    }
-    let a = atom.0 as usize;
-    let degree = wide(degrees[a]);
-    let mut moved = strokes::put_hydrogens(buffer, Place(places[a]), hydrogens[a], pen);
-    let mut k: usize = 0;
-    while k < degree {
-        moved = trace(
-            kinds,
-            hydrogens,
-            degrees,
-            near,
-            codes,
-            buffer,
+    let a = one.0 as usize;
+    let b = two.0 as usize;
+    traced[Table::MAX_ATOMS * a + b] = true;
+    traced[Table::MAX_ATOMS * b + a] = true;
+}
+
+impl Sheet {
+    // A flag for each two atoms.
+    pub const PAIRS: usize = Table::MAX_ATOMS * Table::MAX_ATOMS;
+
+    // The atom of rank 1, of the kind given, is written, and nothing else.
+    pub fn started(kind: Kind) -> Sheet
+        requires { size (begun kind) ≤ 2048 }
+        ensures { (n : ℕ) → n ≤ 64 → Shows n result (begun kind) }
+    {
+        let mut places = [None; Table::MAX_ATOMS];
+        places[0] = Some(Place::FIRST);
+        Sheet {
+            pen: Pen::started(kind),
             places,
-            traced,
-            atom,
-            k,
-            depth - 1,
-            moved,
-        );
-        k += 1;
+            traced: [false; Sheet::PAIRS],
+        }
     }
-    moved
-}
 
-fn wide(x: u8) -> usize
-    ensures { result ≡ x }
-{
-    x as usize
-}
+    // The depth bounds how deep atoms hang from each other.
+    #[cycle(finish_trace)]
+    pub fn finish(&mut self, t: &Table, served: &Served, depth: usize)
+        requires { Finishable t.now self.old served.now depth }
+        ensures { Finished t.now self.old self.new served.now depth }
+    {
+        if depth == 0 {
+            return;
+        }
+        let a = served.atom.0 as usize;
+        self.pen.put_hydrogens(served.place, t.hydrogens[a]);
+        let degree = t.rows.degrees[a] as usize;
+        for k in 0..degree {
+            self.trace(t, served, k, depth - 1);
+        }
+    }
 
-// The neighbour in slot k of the atom's row.
-#[cycle(finish_trace)]
-fn trace<'a>(
-    kinds: &'a [u8; Table::MAX_ATOMS],
-    hydrogens: &'a [u8; Table::MAX_ATOMS],
-    degrees: &'a [u8; Table::MAX_ATOMS],
-    near: &'a [u8; Table::SLOTS],
-    codes: &'a [u8; Table::SLOTS],
-    buffer: &mut [u8; Pen::ROOM],
-    places: &mut [u16; Table::MAX_ATOMS],
-    traced: &mut [u8; Pen::PAIRS],
-    atom: AtomNo,
-    k: usize,
-    depth: usize,
-    pen: Pen,
-) -> Pen
-    requires { Traceable (columns kinds.now hydrogens.now degrees.now near.now codes.now) (sheet buffer.old places.old traced.old pen) atom.0 k depth }
-    ensures { Traced (columns kinds.now hydrogens.now degrees.now near.now codes.now) (sheet buffer.old places.old traced.old pen) (sheet buffer.new places.new traced.new result) atom.0 k depth }
-{
-    let a = atom.0 as usize;
-    let slot = Table::MAX_BONDS_ON * a + k;
-    let next = AtomNo(near[slot]);
-    let s = next.0 as usize;
-    if traced[Table::MAX_ATOMS * a + s] == 1 {
-        return pen;
+    // The neighbour in slot k of the row of the atom served: a ring where it is written already, else it is put, and itself finished first.
+    #[cycle(finish_trace)]
+    fn trace(&mut self, t: &Table, served: &Served, k: usize, depth: usize)
+        requires { Traceable t.now self.old served.now k depth }
+        ensures { Traced t.now self.old self.new served.now k depth }
+    {
+        let a = served.atom.0 as usize;
+        let slot = Table::MAX_BONDS_ON * a + k;
+        let to = AtomNo(t.rows.near[slot]);
+        let b = to.0 as usize;
+        if self.traced[Table::MAX_ATOMS * a + b] {
+            return;
+        }
+        mark(&mut self.traced, served.atom, to);
+        let code = t.rows.codes[slot];
+        self.pen.serve(served.place);
+        match self.places[b] {
+            Some(there) => self.pen.close(code, there),
+            None => {
+                self.pen.put(code, t.kinds[b]);
+                let next = Served {
+                    atom: to,
+                    place: self.pen.cursor,
+                };
+                self.places[b] = Some(next.place);
+                self.finish(t, &next, depth);
+            }
+        }
     }
-    let bond = Bond {
-        one: atom,
-        two: next,
-        code: codes[slot],
-    };
-    let here = Place(places[a]);
-    let there = Place(places[s]);
-    if there.0 != Place::NOWHERE {
-        return strokes::ring(buffer, traced, bond, here, there, pen);
-    }
-    let put = strokes::branch(buffer, places, traced, bond, kinds[s], here, pen);
-    finish(
-        kinds, hydrogens, degrees, near, codes, buffer, places, traced, next, depth, put,
-    )
 }

@@ -1,10 +1,7 @@
-use mathlib.Core.Path.{sym}
+use Rattle.std.proofs.Common.{sym}
 use lib.Seq.{length-take-le}
 use Rattle.lines.proofs.Putting.{prints_fits}
 use Rattle.answering.proofs.run.Goals as goal
-
-pub slice_bounds-answer-end : goal.slice_bounds-answer-end
-slice_bounds-answer-end g c = sym (length-take-le _ _ c.in_ok-l.ensures.ok.0)
 
 pub slice_bounds-printed-end : goal.slice_bounds-printed-end
 slice_bounds-printed-end g c = prints_fits _ _ _ _ c.answer-k.ensures.0

@@ -1,32 +1,46 @@
 -- Each return is the first refusal in the order of document 02, given that none before it was due.
-use Prim.Native.Nat.{ℕ}
-use lib.ListN.{length-replicate, get_or-replicate}
-use Rattle.drawing.proofs.Whole.{whole-counts, whole-unknown, whole-few, whole-bonds, whole_ready, whole-ended}
+use mathlib.Core.Path.{◌≡◌, refl, sym, subst}
+use Rattle.std.proofs.Common.{rules, Err}
+use Rattle.drawing.specs.View.{drawing_in}
+use Rattle.drawing.specs.Folding.{IsFolded}
+use Rattle.drawing.proofs.Whole.{whole-counts, whole-unknown, whole-bonds, whole_ready, whole-finished, whole-ended}
 use Rattle.drawing.proofs.judged.Goals as goal
 
-pub counts_fault-counts-requires : goal.counts_fault-counts-requires
-counts_fault-counts-requires c = (record { few = c.requires.0; long = c.requires.2 }, c.requires.1)
+pub returns-in_err-counts_fault : goal.returns-in_err-counts_fault
+returns-in_err-counts_fault c =
+    let e : c.from_residual.result ≡ Err c.in_err-counts_fault.field-0.0 = search rules in
+    subst (IsFolded (drawing_in c.args.drawing.now)) (sym e) (whole-counts c.args.drawing.now c.requires _ c.in_err-counts_fault.ensures)
 
-pub returns-then-counts-ne0 : goal.returns-then-counts-ne0
-returns-then-counts-ne0 c = whole-counts c.args.kinds.now c.args.one.now c.args.two.now c.args.codes.now c.args.atoms c.args.bonds (record { few = c.requires.0; long = c.requires.2 }) _ c.counts_fault-counts.ensures c.if-counts-ne0.true _ c.refused.ensures
+pub returns-in_err-put_atoms : goal.returns-in_err-put_atoms
+returns-in_err-put_atoms c =
+    let e : c.from_residual-in_err-put_atoms.result ≡ Err c.in_err-put_atoms.field-0.0 = search rules in
+    let P = c.in_err-put_atoms.ensures in
+    subst (IsFolded (drawing_in c.args.drawing.now)) (sym e) (whole-unknown c.args.drawing.now c.requires c.in_ok-counts_fault.ensures _ P.refusal)
 
-pub kinds_fault-unknown-requires : goal.kinds_fault-unknown-requires
-kinds_fault-unknown-requires c = record { few = c.requires.0; long = c.requires.2 }
+pub put_bonds-requires : goal.put_bonds-requires
+put_bonds-requires c = let P = c.in_ok-put_atoms.ensures in (c.requires, P.atoms refl)
 
-pub returns-then-unknown-ne0 : goal.returns-then-unknown-ne0
-returns-then-unknown-ne0 c = whole-unknown c.args.kinds.now c.args.one.now c.args.two.now c.args.codes.now c.args.atoms c.args.bonds (record { few = c.requires.0; long = c.requires.2 }) _ c.counts_fault-counts.ensures c.if-counts-ne0.false _ c.kinds_fault-unknown.ensures c.if-unknown-ne0.true _ c.refused-then-unknown-ne0.ensures
-
-pub bare_atoms-bare-requires : goal.bare_atoms-bare-requires
-bare_atoms-bare-requires c = (record { few = c.requires.0; long = c.requires.2 }, whole-few c.args.kinds.now c.args.one.now c.args.two.now c.args.codes.now c.args.atoms c.args.bonds (record { few = c.requires.0; long = c.requires.2 }) _ c.counts_fault-counts.ensures c.if-counts-ne0.false)
-
-pub fold_bonds-r-requires : goal.fold_bonds-r-requires
-fold_bonds-r-requires c = (record { few = c.requires.0; long = c.requires.2 }, c.requires.1, c.bare_atoms-bare.ensures, length-replicate {A = ℕ} 999 0, λ p h. get_or-replicate {A = ℕ} 999 p 0 0 h)
-
-pub returns-then-r-ne0 : goal.returns-then-r-ne0
-returns-then-r-ne0 c = whole-bonds c.args.kinds.now c.args.one.now c.args.two.now c.args.codes.now c.args.atoms c.args.bonds (record { few = c.requires.0; long = c.requires.2 }) _ c.counts_fault-counts.ensures c.if-counts-ne0.false _ c.kinds_fault-unknown.ensures c.if-unknown-ne0.false _ _ c.fold_bonds-r.ensures c.if-r-ne0.true
+pub returns-in_err-put_bonds : goal.returns-in_err-put_bonds
+returns-in_err-put_bonds c =
+    let e : c.from_residual-in_err-put_bonds.result ≡ Err c.in_err-put_bonds.field-0.0 = search rules in
+    let P = c.in_ok-put_atoms.ensures in
+    subst (IsFolded (drawing_in c.args.drawing.now)) (sym e)
+    (whole-bonds c.args.drawing.now c.requires c.in_ok-counts_fault.ensures P.refusal c.put_bonds.new.self _ c.in_err-put_bonds.ensures)
 
 pub finished-requires : goal.finished-requires
-finished-requires c = let w = whole_ready c.args.kinds.now c.args.one.now c.args.two.now c.args.codes.now c.args.atoms c.args.bonds (record { few = c.requires.0; long = c.requires.2 }) _ c.counts_fault-counts.ensures c.if-counts-ne0.false _ c.kinds_fault-unknown.ensures c.if-unknown-ne0.false _ _ c.fold_bonds-r.ensures c.if-r-ne0.false in (c.requires.0, w.0, w.1, w.2)
+finished-requires c =
+    let P = c.in_ok-put_atoms.ensures in
+    let w = whole_ready c.args.drawing.now c.requires c.in_ok-counts_fault.ensures P.refusal c.put_bonds.new.self c.in_ok-put_bonds.ensures in
+    (c.requires, w.0, w.1, w.2)
+
+pub returns-in_err-finished : goal.returns-in_err-finished
+returns-in_err-finished c =
+    let e : c.from_residual-in_err-finished.result ≡ Err c.in_err-finished.field-0.0 = search rules in
+    let P = c.in_ok-put_atoms.ensures in
+    subst (IsFolded (drawing_in c.args.drawing.now)) (sym e)
+    (whole-finished c.args.drawing.now c.requires c.in_ok-counts_fault.ensures P.refusal c.put_bonds.new.self c.in_ok-put_bonds.ensures _ c.in_err-finished.ensures)
 
 pub returns : goal.returns
-returns c = whole-ended c.args.kinds.now c.args.one.now c.args.two.now c.args.codes.now c.args.atoms c.args.bonds (record { few = c.requires.0; long = c.requires.2 }) _ c.counts_fault-counts.ensures c.if-counts-ne0.false _ c.kinds_fault-unknown.ensures c.if-unknown-ne0.false _ _ c.fold_bonds-r.ensures c.if-r-ne0.false _ c.finished.ensures
+returns c =
+    let P = c.in_ok-put_atoms.ensures in
+    whole-ended c.args.drawing.now c.requires c.in_ok-counts_fault.ensures P.refusal c.put_bonds.new.self c.in_ok-put_bonds.ensures c.in_ok-finished.ensures

@@ -1,80 +1,71 @@
 -- One law of FilingLaws for each return.
-use mathlib.Core.Bool.{Bool, false}
-use mathlib.Core.Path.{◌≡◌, refl, sym, ◌∙◌, ap, subst}
-use Rattle.molfile.specs.Passing.{ending}
+use Rattle.std.proofs.Common.{◌≡◌, refl, sym, ◌∙◌, ap, subst, rules, Err, ℕ, Option, None}
+use lib.ListN.{length, length-replicate}
+use Rattle.drawing.specs.declared.Bond.{Bond}
+use Rattle.drawing.specs.declared.Drawing.{Drawing}
 use Rattle.molfile.specs.Filing.{IsFiled}
-use Rattle.molfile.proofs.FilingLaws.{header_broken, counts_broken, atoms-broken, bonds-broken, ended, drawn-is, filed_broken}
-use Rattle.molfile.proofs.SectionLaws.{never}
+use Rattle.molfile.proofs.FilingLaws.{filed_header, filed_counts, few_atoms, few_bonds, filed_atoms, filed_bonds, filed_ended}
 use Rattle.molfile.proofs.filed.Goals as goal
 
-pub returns-then-header : goal.returns-then-header
-returns-then-header c =
-    subst (IsFiled _ _ _ _ _ _ _ _ _) (sym c.broken_at.ensures)
-    (filed_broken _ _ _ _ _ _ _ _ _ _ (header_broken _ _ c.header-header.ensures c.if-header.true) refl (refl, refl, refl))
+pub returns-in_err-at_counts : goal.returns-in_err-at_counts
+returns-in_err-at_counts c =
+    let e : c.from_residual.result ≡ Err c.in_err-at_counts.field-0.0 = search rules in
+    let P = c.in_err-at_counts.ensures in
+    subst (IsFiled c.args.file.now _) (sym e) (filed_header c.args.file.now _ _ P.passes)
 
-pub returns-then-counts : goal.returns-then-counts
-returns-then-counts c =
-    let header = c.header-header in
-    let counts = c.counts-counts in
-    subst (IsFiled _ _ _ _ _ _ _ _ _) (sym c.broken_at-then-counts.ensures)
-    (filed_broken _ _ _ _ _ _ _ _ _ _ (counts_broken _ _ header.ensures c.if-header.false _ counts.ensures c.if-counts.true) refl (refl, refl, refl))
+pub returns-in_err-at_atoms : goal.returns-in_err-at_atoms
+returns-in_err-at_atoms c =
+    let e : c.from_residual-in_err-at_atoms.result ≡ Err c.in_err-at_atoms.field-0.0 = search rules in
+    let H = c.in_ok-at_counts.ensures in
+    let P = c.in_err-at_atoms.ensures in
+    subst (IsFiled c.args.file.now _) (sym e) (filed_counts c.args.file.now _ H.passes _ _ P.passes)
 
-pub atoms-atoms-requires : goal.atoms-atoms-requires
-atoms-atoms-requires c = c.counts-counts.ensures.few_atoms
+pub pass-requires-3 : goal.pass-requires-3
+pass-requires-3 c =
+    let H = c.in_ok-at_counts.ensures in
+    let C = c.in_ok-at_atoms.ensures in (
+      few_atoms c.args.file.now _ H.passes _ C.passes _ C.taken,
+      record { long = ap (λ (d : Drawing). length d.kinds) c.requires ∙ length-replicate {A = Option ℕ} 999 None; are = refl },
+    )
 
-pub returns-then-atoms : goal.returns-then-atoms
-returns-then-atoms c =
-    let header = c.header-header in
-    let counts = c.counts-counts in
-    let atoms = c.atoms-atoms in
-    subst (IsFiled _ _ _ _ _ _ _ _ _) (sym c.broken_at-then-atoms.ensures)
-    (filed_broken _ _ _ _ _ _ _ _ _ _ (atoms-broken _ _ header.ensures c.if-header.false _ counts.ensures c.if-counts.false _ atoms.ensures.0
-    c.if-atoms.true) atoms.ensures.1.kept (refl, refl, refl))
+pub returns-in_err-at_bonds : goal.returns-in_err-at_bonds
+returns-in_err-at_bonds c =
+    let e : c.from_residual-in_err-at_bonds.result ≡ Err c.in_err-at_bonds.field-0.0 = search rules in
+    let H = c.in_ok-at_counts.ensures in
+    let C = c.in_ok-at_atoms.ensures in
+    let P = c.in_err-at_bonds.ensures in
+    subst (IsFiled c.args.file.now _) (sym e) (filed_atoms c.args.file.now _ H.passes _ C.passes _ C.taken _ _ P.passes)
 
-pub bonds-bonds-requires : goal.bonds-bonds-requires
-bonds-bonds-requires c = c.counts-counts.ensures.few_bonds
+pub pass-requires-4 : goal.pass-requires-4
+pass-requires-4 c =
+    let H = c.in_ok-at_counts.ensures in
+    let C = c.in_ok-at_atoms.ensures in (
+      few_bonds c.args.file.now _ H.passes _ C.passes _ C.taken,
+      record {
+        long = ap (λ (d : Drawing). length d.bonds) c.requires ∙ length-replicate {A = Bond} 999 (record { one = 0; two = 0; code = 0 });
+        are = refl;
+      },
+    )
 
-pub returns-then-bonds : goal.returns-then-bonds
-returns-then-bonds c =
-    let header = c.header-header in
-    let counts = c.counts-counts in
-    let atoms = c.atoms-atoms in
-    let bonds = c.bonds-bonds in
-    subst (IsFiled _ _ _ _ _ _ _ _ _) (sym c.broken_at-then-bonds.ensures)
-    (filed_broken _ _ _ _ _ _ _ _ _ _ (bonds-broken _ _ header.ensures c.if-header.false _ counts.ensures c.if-counts.false _ atoms.ensures.0 c.if-atoms.false _
-    bonds.ensures.0 c.if-bonds.true) atoms.ensures.1.kept bonds.ensures.1.kept)
+pub returns-in_err-at_properties : goal.returns-in_err-at_properties
+returns-in_err-at_properties c =
+    let e : c.from_residual-in_err-at_properties.result ≡ Err c.in_err-at_properties.field-0.0 = search rules in
+    let H = c.in_ok-at_counts.ensures in
+    let C = c.in_ok-at_atoms.ensures in
+    let A = c.in_ok-at_bonds.ensures in
+    let P = c.in_err-at_properties.ensures in
+    subst (IsFiled c.args.file.now _) (sym e) (filed_bonds c.args.file.now _ H.passes _ C.passes _ C.taken _ A.passes _ _ P.passes)
 
-pub returns-then-end : goal.returns-then-end
-returns-then-end c =
-    let header = c.header-header in
-    let counts = c.counts-counts in
-    let atoms = c.atoms-atoms in
-    let bonds = c.bonds-bonds in
-    let properties = c.properties-end in
-    subst (IsFiled _ _ _ _ _ _ _ _ _) (sym c.broken_at-then-end.ensures)
-    (filed_broken _ _ _ _ _ _ _ _ _ _ (ended _ _ header.ensures c.if-header.false _ counts.ensures c.if-counts.false _ atoms.ensures.0 c.if-atoms.false _
-    bonds.ensures.0 c.if-bonds.false properties.result properties.ensures ∙ ap (λ (x : Bool). ending x properties.result.place)
-    c.if-end.true) atoms.ensures.1.kept bonds.ensures.1.kept)
+pub properties-requires : goal.properties-requires
+properties-requires c =
+    let H = c.in_ok-at_counts.ensures in
+    let C = c.in_ok-at_atoms.ensures in
+    few_atoms c.args.file.now _ H.passes _ C.passes _ C.taken
 
 pub returns : goal.returns
 returns c =
-    let header = c.header-header in
-    let counts = c.counts-counts in
-    let atoms = c.atoms-atoms in
-    let bonds = c.bonds-bonds in
-    let A = atoms.ensures.1 in
-    let B = bonds.ensures.1 in
-    let L = bonds.new in
-    let sound_end : c.properties-end.result.broken ≡ false = cc in
-    record {
-      stopped = λ x. never (sym x);
-      passed = λ x. ended _ _ header.ensures c.if-header.false _ counts.ensures c.if-counts.false _ atoms.ensures.0 c.if-atoms.false _ bonds.ensures.0
-          c.if-bonds.false c.properties-end.result c.properties-end.ensures ∙ ap (λ (y : Bool). ending y c.properties-end.result.place)
-          sound_end;
-      drawing = λ l m x. drawn-is _ _ header.ensures c.if-header.false _ counts.ensures c.if-counts.false _ atoms.ensures.0 c.if-atoms.false _ bonds.ensures.0 _
-          L.one L.two L.codes (A.are l c.if-atoms.false) (B.are m c.if-bonds.false);
-      kinds_kept = A.kept;
-      bonds_kept = B.kept;
-      atoms = counts.ensures.few_atoms;
-      bonds = counts.ensures.few_bonds;
-    }
+    let H = c.in_ok-at_counts.ensures in
+    let C = c.in_ok-at_atoms.ensures in
+    let A = c.in_ok-at_bonds.ensures in
+    let B = c.in_ok-at_properties.ensures in
+    filed_ended c.args.file.now _ H.passes _ C.passes _ C.taken _ A.passes _ B.passes _ _ A.taken B.taken _ c.properties.ensures

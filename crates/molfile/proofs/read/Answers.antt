@@ -1,16 +1,29 @@
 -- The length first, then the lines, then the drawing: each answer is one of the three.
-use mathlib.Core.Path.{refl}
-use native.Mathlib.Omega.{arith}
-use Rattle.molfile.proofs.ReadingLaws.{too_long, broken-line, judged-drawing}
+use Rattle.std.proofs.Common.{◌≡◌, sym, subst, rules, Err}
+use Rattle.refusal.specs.declared.Refused.{Refused}
+use Rattle.refusal.specs.Numbers.{at_start}
+use Rattle.molfile.specs.Reading.{IsRead}
+use Rattle.molfile.proofs.ReadingLaws.{too_long, broken-line, judged-wrong, judged-right}
 use Rattle.molfile.proofs.read.Goals as goal
 
 pub returns-then-file-gt-MOST_BYTES : goal.returns-then-file-gt-MOST_BYTES
-returns-then-file-gt-MOST_BYTES c = too_long _ _ (omega arith) c.refused.ensures.0 c.refused.ensures.1
+returns-then-file-gt-MOST_BYTES c =
+    subst (λ (e : Refused). IsRead c.args.file.now (Err e)) (sym c.from.ensures) (too_long c.args.file.now c.if-file-gt-MOST_BYTES.true)
 
-pub returns-then-f : goal.returns-then-f
-returns-then-f c =
-    broken-line _ _ (omega arith) _ (c.filed-f.ensures.stopped c.if-f.true) c.refused-then-f.ensures.0 c.refused-then-f.ensures.1
+pub returns-in_err-filed : goal.returns-in_err-filed
+returns-in_err-filed c =
+    let e : c.from_residual.result ≡ Err c.in_err-filed.field-0.0 = search rules in
+    let F = c.in_err-filed.ensures in
+    subst (IsRead c.args.file.now) (sym e) (broken-line c.args.file.now c.if-file-gt-MOST_BYTES.false _ F.judged F.refusal)
+
+pub returns-in_err-table : goal.returns-in_err-table
+returns-in_err-table c =
+    let e : c.from_residual-in_err-table.result ≡ Err (at_start c.in_err-table.field-0.0) = search rules in
+    let F = c.in_ok-filed.ensures in
+    subst (IsRead c.args.file.now) (sym e)
+    (judged-wrong c.args.file.now c.if-file-gt-MOST_BYTES.false F.judged _ F.drawing _ c.in_err-table.ensures)
 
 pub returns : goal.returns
 returns c =
-    judged-drawing _ _ (omega arith) (c.filed-f.ensures.passed c.if-f.false) _ (c.filed-f.ensures.drawing refl (refl, refl, refl) c.if-f.false) _ c.judged-folded.ensures refl
+    let F = c.in_ok-filed.ensures in
+    judged-right c.args.file.now c.if-file-gt-MOST_BYTES.false F.judged _ F.drawing _ c.in_ok-table.ensures

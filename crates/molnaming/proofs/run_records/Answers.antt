@@ -1,11 +1,7 @@
-use mathlib.Core.Path.{sym}
-use native.Mathlib.Omega.{arith}
+use Rattle.std.proofs.Common.{sym}
 use lib.Seq.{length-take-le}
 use Rattle.lines.proofs.Putting.{prints_fits}
 use Rattle.molnaming.proofs.run_records.Goals as goal
-
-pub slice_bounds-record_line-end : goal.slice_bounds-record_line-end
-slice_bounds-record_line-end g c = sym (length-take-le _ _ (omega (arith, c.in_ok-r.ensures.ok.0)))
 
 pub slice_bounds-printed-end : goal.slice_bounds-printed-end
 slice_bounds-printed-end g c = prints_fits _ _ _ _ c.record_line-k.ensures

@@ -1,7 +1,4 @@
-use mathlib.Core.Path.{sym}
-use Prim.Native.Nat.{◌≤◌}
-use native.Mathlib.Omega.{arith}
-use lib.ListN.{length}
+use Rattle.std.proofs.Common.{◌≤◌, sym, length, arith, rules}
 use lib.Seq.{length-take-le}
 use Rattle.scallopgrid.specs.Returned.{returned}
 use Rattle.scallopgrid.proofs.Fits.{name-fits}
@@ -12,9 +9,7 @@ pub returns-then-input-gt-MOST_CARD : goal.returns-then-input-gt-MOST_CARD
 returns-then-input-gt-MOST_CARD c = rw (long-line c.args.input.now c.if-input-gt-MOST_CARD.true) c.copy.ensures
 
 pub slice_bounds-lent-end : goal.slice_bounds-lent-end
-slice_bounds-lent-end c =
-    let a = c.name_of_card-a in
-    omega (arith, name-fits _ _ _ _ a.ensures)
+slice_bounds-lent-end c = let a = c.name_of_card-a in omega (arith, name-fits _ _ _ _ a.ensures)
 
 pub slice_bounds-put_name-end : goal.slice_bounds-put_name-end
 slice_bounds-put_name-end c =
@@ -26,9 +21,9 @@ pub put_name-requires : goal.put_name-requires
 put_name-requires c =
     let a = c.name_of_card-a in
     let h : a.result.length ≤ length a.new.out = omega (arith, name-fits _ _ _ _ a.ensures) in
-    omega (arith, length-take-le a.result.length a.new.out h, name-fits _ _ _ _ a.ensures, c.name_buffer-lent.ensures)
+    omega (arith, length-take-le a.result.length a.new.out h, name-fits _ _ _ _ a.ensures)
 
 pub returns : goal.returns
 returns c =
     let a = c.name_of_card-a in
-    named-line _ _ (returned a.result a.new.out) c.if-input-gt-MOST_CARD.false (sym c.name_buffer-lent.ensures) a.ensures _ _ _ c.put_name.ensures
+    named-line _ _ (returned a.result a.new.out) c.if-input-gt-MOST_CARD.false (search rules) a.ensures _ _ _ c.put_name.ensures

@@ -1,5 +1,4 @@
-use mathlib.Core.Path.{sym, ◌∙◌}
-use native.Mathlib.Omega.{arith}
+use Rattle.std.proofs.Common.{sym, ◌∙◌, arith}
 use Rattle.lines.proofs.Fronted.{prints_none}
 use Rattle.answering.specs.Requests.{input_of}
 use Rattle.answering.proofs.Inputs.{input_hex}
@@ -13,7 +12,3 @@ pub read_bytes-requires : goal.read_bytes-requires
 read_bytes-requires c =
     let i = input_hex c.args.hex.now c.requires.0 (sym c.is_word.ensures ∙ c.if-is_word.false) in
     (i.0, omega arith)
-
-pub returns : goal.returns
-unfolding input_of
-returns c = rw (sym c.is_word.ensures ∙ c.if-is_word.false) c.read_bytes.ensures

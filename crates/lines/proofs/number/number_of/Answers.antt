@@ -1,50 +1,40 @@
-use mathlib.Core.Path.{◌≡◌, refl, sym, ◌∙◌, ap}
-use Prim.Native.Nat.{ℕ, ◌+◌, ◌*◌}
-use native.Mathlib.Omega.{arith}
-use lib.ListN.{length, get_or, drop}
-use Rattle.lists.specs.Upto.{each}
-use Rattle.lists.specs.Tests.{every}
+use Rattle.std.proofs.Common.{◌≡◌, ◌∙◌, ◌<◌, sym, ap, ◌+◌, ◌*◌, length, get_or, drop, take_all, arith, rules}
+use Rattle.std.specs.List.{list_all}
+use Rattle.std.proofs.lemmas.List.Folds.{list_all_more}
 use Rattle.lines.specs.Numbers.{is_digit}
-use Rattle.lines.proofs.Passing.{passed_none, passed-more}
 use Rattle.lines.proofs.Spelling.{no_digit, a_digit, worth-grows, worth-next, worth-end, number-empty, number-leading, number-broken, number-over, number-whole}
+use Rattle.lines.proofs.number.number_of.Goals.{then-is_empty-via-then-is_empty, then-is_empty-via-else-is_empty+then-leading_zero}
 use Rattle.lines.proofs.number.number_of.Goals as goal
 
-pub returns-then-field-eq0 : goal.returns-then-field-eq0
-returns-then-field-eq0 c = number-empty _ _ c.if-field-eq0.true
+pub returns-then-is_empty : goal.returns-then-is_empty
+returns-then-is_empty c =
+    elim c.then-is_empty.branch [
+      | then-is_empty-via-then-is_empty w ↦ number-empty _ _ (search rules)
+      | then-is_empty-via-else-is_empty+then-leading_zero w ↦ number-leading _ _ (sym w.leading_zero.ensures ∙ w.if-leading_zero.true)
+    ]
 
-pub returns-then-leading_zero : goal.returns-then-leading_zero
-returns-then-leading_zero c = number-leading _ _ (sym c.leading_zero.ensures ∙ c.if-leading_zero.true)
+pub returns-in_err-d : goal.returns-in_err-d
+returns-in_err-d c =
+    c.from_residual.ensures ∙ number-broken _ _ c.loop-b.b-index (omega arith) (no_digit (get_or c.args.field.now c.loop-b.b-index 0) (sym c.in_err-d.was ∙ c.digit.ensures))
 
-pub loop-i-init : goal.loop-i-init
-loop-i-init c = (omega arith, passed_none _, refl, omega arith)
+pub returns-then-from-value : goal.returns-then-from-value
+returns-then-from-value c =
+    let d = a_digit (get_or c.args.field.now c.loop-b.b-index 0) c.in_ok-d.d (sym c.in_ok-d.was ∙ c.digit.ensures) in
+    let w = c.loop-b.invariant.1 ∙ worth-next c.args.field.now c.loop-b.value c.loop-b.b-index c.in_ok-d.d (omega arith) d.1 in
+    number-over _ _ (omega (arith, w, worth-grows (drop (c.loop-b.b-index + 1) c.args.field.now) (10 * c.loop-b.value + c.in_ok-d.d)))
 
-pub returns-then-d-eq-NO_DIGIT : goal.returns-then-d-eq-NO_DIGIT
-returns-then-d-eq-NO_DIGIT c =
-    number-broken _ _ c.loop-i.i (omega arith) (no_digit (get_or c.args.field.now c.loop-i.i 0) _ c.digit-d.ensures c.if-d-eq-NO_DIGIT.true)
-
-pub overflow_add-value : goal.overflow_add-value
-overflow_add-value c =
-    let d = a_digit (get_or c.args.field.now c.loop-i.i 0) c.digit-d.result c.digit-d.ensures c.if-d-eq-NO_DIGIT.false in
-    omega (arith, c.ranges.most)
-
-pub returns-then-bound-value : goal.returns-then-bound-value
-returns-then-bound-value c =
-    let d = a_digit (get_or c.args.field.now c.loop-i.i 0) c.digit-d.result c.digit-d.ensures c.if-d-eq-NO_DIGIT.false in
-    let w = c.loop-i.invariant.2 ∙ worth-next c.args.field.now c.loop-i.value c.loop-i.i c.digit-d.result (omega arith) d.1 in
-    number-over _ _ (omega (arith, w, worth-grows (drop (c.loop-i.i + 1) c.args.field.now) (10 * c.loop-i.value + c.digit-d.result), c.wide-bound.ensures))
-
-pub loop-i-preserved : goal.loop-i-preserved
-loop-i-preserved c =
-    let d = a_digit (get_or c.args.field.now c.loop-i.i 0) c.digit-d.result c.digit-d.ensures c.if-d-eq-NO_DIGIT.false in (
+pub loop-b-preserved : goal.loop-b-preserved
+loop-b-preserved c =
+    let d = a_digit (get_or c.args.field.now c.loop-b.b-index 0) c.in_ok-d.d (sym c.in_ok-d.was ∙ c.digit.ensures) in
+    let h : c.loop-b.b-index < length c.args.field.now = omega arith in (
+      list_all_more is_digit c.args.field.now c.loop-b.b-index 0 h ∙ rw (c.loop-b.invariant.0, d.0),
+      c.loop-b.invariant.1 ∙ worth-next c.args.field.now c.loop-b.value c.loop-b.b-index c.in_ok-d.d h d.1,
       omega arith,
-      passed-more _ c.loop-i.i c.loop-i.invariant.1 d.0,
-      c.loop-i.invariant.2 ∙ worth-next c.args.field.now c.loop-i.value c.loop-i.i c.digit-d.result (omega arith) d.1,
-      omega (arith, c.wide-bound.ensures),
     )
 
 pub returns : goal.returns
 returns c =
-    let e : c.loop-i.i ≡ length c.args.field.now = omega arith in
-    number-whole _ _ c.loop-i.value (omega arith) (sym c.leading_zero.ensures ∙ c.if-leading_zero.false)
-    (ap (λ (k : ℕ). every (each k (λ j. is_digit (get_or c.args.field.now j 0)))) (sym e) ∙ c.loop-i.invariant.1)
-    (c.loop-i.invariant.2 ∙ worth-end c.args.field.now c.loop-i.value c.loop-i.i (omega arith)) c.loop-i.invariant.3
+    let e : c.loop-b.b-index ≡ length c.args.field.now = omega arith in
+    number-whole _ _ c.loop-b.value (search rules) (sym c.leading_zero.ensures ∙ c.if-leading_zero.false)
+    (ap (list_all is_digit) (sym (take_all c.loop-b.b-index c.args.field.now (omega arith))) ∙ c.loop-b.invariant.0)
+    (c.loop-b.invariant.1 ∙ worth-end c.args.field.now c.loop-b.value c.loop-b.b-index (omega arith)) c.loop-b.invariant.2

@@ -1,17 +1,12 @@
--- The three tests are those of the definition.
-use borrow.Author.Tests.{ne_eqb, eq-eqb}
-use Rattle.lists.specs.Tests.{every}
-use mathlib.Core.Bool.{and-true}
+-- Each byte is compared with a blank.
+use Rattle.std.proofs.Common.{◌∙◌, rules}
+use lib.Dec.{eqb}
+use borrow.Author.Tests.{tests}
+use Rattle.std.proofs.lemmas.Iterator.{YieldsList-from_slice}
+use Rattle.std.proofs.lemmas.Iterator.Search.{all_from_yields_List}
+use Rattle.molfile.proofs.FieldLaws.{all_blank}
 use Rattle.molfile.proofs.field.are_blank.Goals as goal
 
-pub returns-then-a-ne-BLANK : goal.returns-then-a-ne-BLANK
-unfolding every
-returns-then-a-ne-BLANK c = simp (ne_eqb _ _ c.if-a-ne-BLANK.true)
-
-pub returns-then-b-ne-BLANK : goal.returns-then-b-ne-BLANK
-unfolding every
-returns-then-b-ne-BLANK c = simp (eq-eqb _ _ c.if-a-ne-BLANK.false, ne_eqb _ _ c.if-b-ne-BLANK.true)
-
 pub returns : goal.returns
-unfolding every
-returns c = simp (eq-eqb _ _ c.if-a-ne-BLANK.false, eq-eqb _ _ c.if-b-ne-BLANK.false, and-true)
+returns c =
+    all_from_yields_List (λ b. eqb b 32) _ _ _ c.all.ensures.ran (YieldsList-from_slice c.args.field.now cc) (λ x b q k. search (rules, tests)) ∙ all_blank c.args.field.now

@@ -1,8 +1,12 @@
--- The three columns are those of the definition.
-use mathlib.Core.Path.{◌∙◌}
-use Rattle.molfile.proofs.FieldLaws.{columns-three}
+-- Of three columns no more than three are left.
+use Rattle.std.proofs.Common.{ap, arith, length}
+use Rattle.ctfile.specs.Fields.{number_in}
+use Rattle.molfile.proofs.FieldLaws.{columns-long, unled_long}
 use Rattle.molfile.proofs.field.number_at.Goals as goal
 
+pub decimal-requires : goal.decimal-requires
+decimal-requires c = omega (arith, ap length c.unled.ensures, unled_long c.columns.result, ap length c.columns.ensures, columns-long c.args.k 3 c.args.line.now)
+
 pub returns : goal.returns
-returns c =
-    record { is = c.number_of.ensures.is ∙ rw (c.column.ensures, c.column-2.ensures, c.column-3.ensures, columns-three); small = c.number_of.ensures.small }
+unfolding number_in
+returns c = rw (c.unled.ensures, c.columns.ensures) at c.decimal.ensures

@@ -1,22 +1,28 @@
--- One law of FormLaws for each return.
-use Prim.Native.Nat.{ℕ}
-use mathlib.Core.Path.{sym, ◌∙◌, ap}
-use lib.Dec.{eqb}
-use Rattle.molfile.proofs.FormLaws.{symbol-blank, atom-blank, atom-mass, atom-charge}
+-- One law of FormLaws for each way through the test.
+use Rattle.std.proofs.Common.{◌≡◌, true, false, not, sym, ◌∙◌, ap}
+use Rattle.ctfile.specs.Fields.{are_blank}
+use Rattle.molfile.proofs.FormLaws.{is-zero, atom-blank, atom-mass, atom-charge}
+use Rattle.molfile.proofs.forms.is_atom_line.Goals.{then-not-are_blank, else-not-are_blank}
 use Rattle.molfile.proofs.forms.is_atom_line.Goals as goal
 
-pub returns-then-are_blank : goal.returns-then-are_blank
-returns-then-are_blank c =
-    atom-blank c.args.line.now (sym (symbol-blank c.args.line.now _ _ _ c.column.ensures c.column-2.ensures c.column-3.ensures) ∙ sym
-    c.are_blank.ensures ∙ c.if-are_blank.true)
+never : {A : Type 0} → true ≡ false → A
+never e = absurd (cc)
 
-pub returns-then-small_size_at-ne0 : goal.returns-then-small_size_at-ne0
-returns-then-small_size_at-ne0 c =
-    atom-mass c.args.line.now (sym (symbol-blank c.args.line.now _ _ _ c.column.ensures c.column-2.ensures c.column-3.ensures) ∙ sym c.are_blank.ensures
-    ∙ c.if-are_blank.false) (λ q. c.if-small_size_at-ne0.true (c.small_size_at.ensures.is ∙ q))
+pub returns-then-eq : goal.returns-then-eq
+returns-then-eq c =
+    let l = c.args.line.now in
+    let b = sym (c.are_blank.ensures ∙ ap are_blank c.columns-symbol.ensures) in
+    elim c.if-not-are_blank.branch [
+      | then-not-are_blank w ↦ c.eq-then-eq.ensures ∙ is-zero _ _ c.number_at.ensures ∙ atom-charge l (b ∙ w.if-not-are_blank.true)
+          (sym (is-zero _ _ w.size_at.ensures) ∙ sym w.eq.ensures ∙ sym w.value-is ∙ c.if-eq.true)
+      | else-not-are_blank w ↦ never (sym c.if-eq.true ∙ w.value-is ∙ ap not w.if-not-are_blank.false)
+    ]
 
-pub returns : goal.returns
-returns c =
-    ap (λ (n : ℕ). eqb n 0) c.number_at.ensures.is ∙ atom-charge c.args.line.now
-    (sym (symbol-blank c.args.line.now _ _ _ c.column.ensures c.column-2.ensures c.column-3.ensures) ∙ sym c.are_blank.ensures ∙ c.if-are_blank.false)
-    (sym c.small_size_at.ensures.is ∙ c.if-small_size_at-ne0.false)
+pub returns-else-eq : goal.returns-else-eq
+returns-else-eq c =
+    let l = c.args.line.now in
+    let b = sym (c.are_blank.ensures ∙ ap are_blank c.columns-symbol.ensures) in
+    c.if-eq.false ∙ elim c.if-not-are_blank.branch [
+      | then-not-are_blank w ↦ atom-mass l (b ∙ w.if-not-are_blank.true) (sym (is-zero _ _ w.size_at.ensures) ∙ sym w.eq.ensures ∙ sym w.value-is ∙ c.if-eq.false)
+      | else-not-are_blank w ↦ atom-blank l (b ∙ w.if-not-are_blank.false)
+    ]

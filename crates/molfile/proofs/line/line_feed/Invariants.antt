@@ -1,12 +1,8 @@
 -- What is left from an offset on has the same LF.
-use Prim.Native.Nat.{◌+◌, ◌-◌, ◌≤◌}
-use mathlib.Core.Path.{◌≡◌}
-use lib.ListN.{length, drop}
+use Rattle.std.proofs.Common.{◌≡◌, ◌+◌}
+use lib.ListN.{drop}
 use Rattle.molfile.specs.Cutting.{line_feed}
 use Rattle.molfile.proofs.line.line_feed.Given as goal
 
 abbrev pub invariant-loop-i : goal.invariant-loop-i
-invariant-loop-i l = (l.i ≤ length l.file) × (l.i + line_feed (drop l.i l.file) ≡ l.at + line_feed (drop l.at l.file))
-
-abbrev pub decreases-loop-i : goal.decreases-loop-i
-decreases-loop-i l = length l.file - l.i
+invariant-loop-i l = l.i + line_feed (drop l.i l.file) ≡ l.at + line_feed (drop l.at l.file)

@@ -11,7 +11,7 @@ use Rattle.molfile.proofs.properties.are_entries.Goals as goal
 
 pub loop-e-init : goal.loop-e-init
 unfolding every
-loop-e-init c = (omega arith, rw (each-zero (is_entry c.args.atoms c.args.line.now)))
+loop-e-init c = rw (each-zero (is_entry c.args.atoms c.args.line.now))
 
 pub returns-then-not-is_entry : goal.returns-then-not-is_entry
 returns-then-not-is_entry c =
@@ -20,8 +20,8 @@ returns-then-not-is_entry c =
 
 pub loop-e-preserved : goal.loop-e-preserved
 loop-e-preserved c =
-    (omega arith, every_more (is_entry c.args.atoms c.args.line.now) c.loop-e.e c.loop-e.invariant.1 (sym c.is_entry.ensures ∙ c.if-not-is_entry.false))
+    every_more (is_entry c.args.atoms c.args.line.now) c.loop-e.e c.loop-e.invariant (sym c.is_entry.ensures ∙ c.if-not-is_entry.false)
 
 pub returns : goal.returns
 returns c =
-    let e : c.loop-e.e ≡ c.args.entries = omega arith in sym c.loop-e.invariant.1 ∙ ap (λ (k : ℕ). every (each k (is_entry c.args.atoms c.args.line.now))) e
+    let e : c.loop-e.e ≡ c.args.entries = omega arith in sym c.loop-e.invariant ∙ ap (λ (k : ℕ). every (each k (is_entry c.args.atoms c.args.line.now))) e

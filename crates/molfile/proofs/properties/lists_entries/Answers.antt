@@ -1,15 +1,27 @@
--- One law of PropertyLaws for each return.
-use mathlib.Core.Path.{sym, ◌∙◌}
+-- One law of PropertyLaws for each way through the test.
+use Rattle.std.proofs.Common.{◌≡◌, true, false, sym, ◌∙◌}
+use Rattle.molfile.proofs.TextLaws.{compared}
 use Rattle.molfile.proofs.PropertyLaws.{zero-charge, zero-radical, zero-isotope}
+use Rattle.molfile.proofs.properties.lists_entries.Goals.{then-starts_with, else-starts_with}
 use Rattle.molfile.proofs.properties.lists_entries.Goals as goal
 
-pub returns-then-begins : goal.returns-then-begins
-returns-then-begins c = zero-charge c.args.line.now (sym c.begins.ensures ∙ c.if-begins.true)
+never : {A : Type 0} → true ≡ false → A
+never e = absurd (cc)
 
-pub returns-then-begins-2 : goal.returns-then-begins-2
-returns-then-begins-2 c =
-    zero-radical c.args.line.now (sym c.begins.ensures ∙ c.if-begins.false) (sym c.begins-2.ensures ∙ c.if-begins-2.true)
+pub returns-then-starts_with-2 : goal.returns-then-starts_with-2
+returns-then-starts_with-2 c =
+    let l = c.args.line.now in
+    c.if-starts_with-2.true ∙ elim c.if-starts_with.branch [
+      | then-starts_with w ↦ zero-charge l (sym (compared _ _) ∙ sym c.starts_with.ensures.value ∙ w.if-starts_with.true)
+      | else-starts_with w ↦ zero-radical l (sym (compared _ _) ∙ sym c.starts_with.ensures.value ∙ w.if-starts_with.false)
+          (sym (compared _ _) ∙ sym w.starts_with-else-starts_with.ensures.value ∙ sym w.value-is ∙ c.if-starts_with-2.true)
+    ]
 
-pub returns : goal.returns
-returns c =
-    c.begins-3.ensures ∙ zero-isotope c.args.line.now (sym c.begins.ensures ∙ c.if-begins.false) (sym c.begins-2.ensures ∙ c.if-begins-2.false)
+pub returns-else-starts_with-2 : goal.returns-else-starts_with-2
+returns-else-starts_with-2 c =
+    let l = c.args.line.now in
+    elim c.if-starts_with.branch [
+      | then-starts_with w ↦ never (sym w.if-starts_with.true ∙ sym w.value-is ∙ c.if-starts_with-2.false)
+      | else-starts_with w ↦ c.starts_with-else-starts_with-2.ensures.value ∙ compared _ _ ∙ zero-isotope l (sym (compared _ _) ∙ sym c.starts_with.ensures.value ∙ w.if-starts_with.false)
+          (sym (compared _ _) ∙ sym w.starts_with-else-starts_with.ensures.value ∙ sym w.value-is ∙ c.if-starts_with-2.false)
+    ]

@@ -1,7 +1,5 @@
 -- What is left from an offset on is judged as the whole is.
-use Prim.Native.Nat.{◌-◌}
-use mathlib.Core.Path.{◌≡◌}
-use lib.ListN.{length}
+use Rattle.std.proofs.Common.{◌≡◌, ◌-◌, length}
 use Rattle.ctfile.specs.Filed.{properties}
 use Rattle.molfile.specs.Cutting.{lines_at}
 use Rattle.molfile.proofs.sections.properties.Given as goal

@@ -1,12 +1,8 @@
-use mathlib.Core.Path.{◌≡◌}
-use Prim.Native.Nat.{◌+◌, ◌-◌, ◌≤◌}
-use lib.ListN.{length}
+-- The lines counted, and those that begin from here on, are those of the whole.
+use Rattle.std.proofs.Common.{◌≡◌, ◌+◌, ◌≤◌, length}
 use Rattle.ctfile.specs.Lines.{lines_of}
 use Rattle.molnaming.proofs.Begun.{begun}
 use Rattle.molnaming.proofs.part.lines_in.Given as goal
 
-abbrev pub invariant-loop-i : goal.invariant-loop-i
-invariant-loop-i l = (l.i ≤ length l.file) × (l.lines ≤ l.i) × (l.lines + begun l.file l.begins l.i ≡ length (lines_of l.file))
-
-abbrev pub decreases-loop-i : goal.decreases-loop-i
-decreases-loop-i l = length l.file - l.i
+abbrev pub invariant-loop-b : goal.invariant-loop-b
+invariant-loop-b l = (l.lines ≤ l.b-index) × (l.lines + begun l.file l.begins l.b-index ≡ length (lines_of l.file))

@@ -5,8 +5,7 @@ use Rattle.table.proofs.Flooding.{Going}
 use Rattle.table.proofs.Table.connected.Given as goal
 
 abbrev pub invariant-loop-head : goal.invariant-loop-head
-invariant-loop-head l =
-    Going (arrays_of l.self) (record { seen = l.seen; queue = l.queue; end = l.end }) l.head
+invariant-loop-head l = Going (arrays_of l.self) l.flood l.head
 
 abbrev pub decreases-loop-head : goal.decreases-loop-head
 decreases-loop-head l = 64 - l.head

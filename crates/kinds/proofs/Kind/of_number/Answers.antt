@@ -1,0 +1,16 @@
+-- Above 83 no kind has the number; below, the array's entry is the rules' kind.
+use mathlib.Core.Path.{sym, ◌∙◌}
+use native.Mathlib.Omega.{arith}
+use Rattle.kinds.proofs.Arrays.{by_number, kind-at, no_number, kind_of_number-low}
+use Rattle.kinds.proofs.Kind.of_number.Goals as goal
+
+pub returns-then-number-gt83 : goal.returns-then-number-gt83
+returns-then-number-gt83 c = sym (no_number c.args.number c.if-number-gt83.true)
+
+pub at-requires : goal.at-requires
+unfolding by_number
+at-requires c = omega (arith, kind-at c.args.number c.if-number-gt83.false, kind_of_number-low c.args.number)
+
+pub returns : goal.returns
+unfolding by_number
+returns c = c.at.ensures ∙ kind-at c.args.number c.if-number-gt83.false

@@ -1,0 +1,11 @@
+-- "25 is the number of no kind": what a look-up that may find nothing comes to.
+use Rattle.std.specs.Prelude.{ℕ, zero, suc, Option, Some, None}
+
+abbrev pub kind_in : Option ℕ → ℕ
+kind_in (Some k) = k
+kind_in None = 25
+
+-- a letter, where 0 stands for none
+abbrev pub letter_in : ℕ → Option ℕ
+letter_in zero = None
+letter_in (suc n) = Some (suc n)
