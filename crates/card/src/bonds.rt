@@ -12,7 +12,7 @@ use table::rows::Rows;
 use table::{AtomNo, Table};
 
 // 5 for an atom that is not there; 6 for a bond to itself, a second one on the pair, a code not 1 to 4; 4 for a seventh on an atom.
-// The rows are lent with the number of their atoms and not in a table, for a drawing, which judges its bonds before its table is made.
+// A table is lent as its number of atoms and its rows, since nothing else of it is judged by.
 // a, b and code come one by one, as they stand in the rows and as `put_bond` takes them: a struct would only be taken apart again.
 #[tactic(auto, unfolding(crate::specs::Tests::bond_tested))]
 pub fn bond_fault(n: usize, rows: &Rows, a: AtomNo, b: AtomNo, code: u8) -> Result<(), Refusal>

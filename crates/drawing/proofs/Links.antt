@@ -19,7 +19,7 @@ use Rattle.table.specs.Changes.{bond_of}
 use Rattle.ctfile.specs.Filed.{Drawing}
 use Rattle.ctfile.specs.Drawings.{is_h, to_h}
 use Rattle.drawing.specs.Folding.{heavies_to}
-use Rattle.drawing.proofs.Taken.{get_or-there}
+use Rattle.lists.proofs.Members.{get_or-there}
 use Rattle.drawing.proofs.Bared.{heavy}
 
 module _ (d : Drawing) where

@@ -10,13 +10,8 @@ use native.Mathlib.Nat.{not-suc-le-zero}
 use native.Mathlib.Numerals.{add-one}
 use native.Mathlib.Omega.{arith}
 use lib.ListN.{length, get_or, take, get_or-eq_default}
+use Rattle.lists.proofs.Members.{get_or-there}
 use lib.Seq.{get_or-take, length-take-le, take-suc}
-
--- what stands in a list does not depend on what is read past its end
-pub get_or-there : {A : Type 0} (l : List A) (p : ℕ) (x y : A) → p < length l → get_or l p x ≡ get_or l p y
-get_or-there [] p x y h = absurd (not-suc-le-zero h)
-get_or-there (z ∷ l) zero x y h = refl
-get_or-there (z ∷ l) (suc p) x y h = get_or-there l p x y (omega arith)
 
 pub mapped_at : {A B : Type 0} (f : A → B) (l : List A) (p : ℕ) (x : A) (y : B) → p < length l → get_or (map f l) p y ≡ f (get_or l p x)
 mapped_at f [] p x y h = absurd (not-suc-le-zero h)

@@ -2,7 +2,7 @@
 use mathlib.Core.Bool.{Bool, true, false, cond, not, ◌&&◌}
 use mathlib.Core.List.{List, map}
 use mathlib.Core.Path.{◌≡◌, refl, sym, ◌∙◌, ap, ap₂}
-use Prim.Native.Nat.{ℕ, zero, suc, ◌<◌, ◌≤◌}
+use Prim.Native.Nat.{ℕ, ◌<◌, ◌≤◌}
 use native.Mathlib.Omega.{arith}
 use lib.Dec.{eqb}
 use lib.ListN.{length, get_or}
@@ -13,6 +13,7 @@ use Rattle.lists.proofs.Upto.{each-eq}
 use Rattle.molecule.specs.Bonds.{on}
 use Rattle.molecule.specs.Molecule.{connected}
 use Rattle.molecule.specs.Refusals.{or_next}
+use Rattle.molecule.proofs.Judging as judging
 use Rattle.sling.specs.Folded as text
 use Rattle.refusal.specs.declared.Refusal.{Refusal}
 use Rattle.refusal.specs.Numbers.{number_of}
@@ -31,11 +32,6 @@ use Rattle.drawing.proofs.Taken.{mapped_long, taken_length, taken_there}
 use Rattle.drawing.proofs.Bared.{heavies_all}
 use Rattle.drawing.proofs.Held.{holds_even}
 use Rattle.drawing.proofs.Capped.{hydrogens-view, holds_view, ended-alike}
-
--- a first fault that is none: neither is the next
-or_next-zero : (m n : ℕ) → or_next m n ≡ 0 → (m ≡ 0) × (n ≡ 0)
-or_next-zero zero n e = (refl, e)
-or_next-zero (suc m) n e = absurd (omega arith)
 
 -- what is judged once all bonds are: each return is the first fault in the order of the rules
 module _ (d : Drawing) (f : Folding) where
@@ -140,5 +136,5 @@ module _ (d : Drawing) (A : Fits d) where
           where
             exact : hydrogens_tested f.table.hydrogens f.table.n ≡ 0
             exact =
-                let w = or_next-zero (cond (lone_in (numbers_of d) f.used d.counts.atoms) 7 0) (or_next (hydrogens_fault (view_of f.table)) (apart_fault (view_of f.table))) (sym e) in
-                hydrogens-view f.table ∙ (or_next-zero (hydrogens_fault (view_of f.table)) (apart_fault (view_of f.table)) w.1).0
+                let w = judging.or_next-none (cond (lone_in (numbers_of d) f.used d.counts.atoms) 7 0) (or_next (hydrogens_fault (view_of f.table)) (apart_fault (view_of f.table))) (sym e) in
+                hydrogens-view f.table ∙ (judging.or_next-none (hydrogens_fault (view_of f.table)) (apart_fault (view_of f.table)) w.1).0

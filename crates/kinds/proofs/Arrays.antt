@@ -3,7 +3,7 @@ use mathlib.Core.Bool.{Bool, true, false, cond, ◌&&◌}
 use mathlib.Core.List.{List, [], ◌∷◌}
 use mathlib.Core.Logic.{◌≢◌}
 use mathlib.Core.Path.{◌≡◌, refl, sym, ◌∙◌, ap, ap₂}
-use Prim.Native.Nat.{ℕ, suc, ◌+◌, ◌-◌, ◌<◌, ◌≤◌, compare, Ordering}
+use Prim.Native.Nat.{ℕ, suc, ◌+◌, ◌-◌, ◌<◌, ◌≤◌, compare}
 use native.Mathlib.Decide.{dec_lt}
 use native.Mathlib.Omega.{arith}
 use lib.Dec.{eqb, leb, compare_is_eq}
@@ -12,7 +12,7 @@ use borrow.Author.Tests.{eqb-true, leb-true, eq-eqb, ne_eqb}
 use Rattle.lists.specs.Upto.{from, each}
 use Rattle.lists.specs.Tests.{every, find}
 use Rattle.lists.specs.Order.{lex}
-use Rattle.lists.proofs.Order.{number-order, lex-order}
+use Rattle.lists.proofs.Order.{number-order, lex-order, is_eq_true}
 use Rattle.lists.proofs.Booleans.{and_both}
 use Rattle.lists.proofs.Tested.{every-true_below}
 use Rattle.molecule.specs.Kinds.{kinds, symbol_of, number_of, kind_of_symbol, kind_of_number}
@@ -73,11 +73,6 @@ capital_at c h k =
 abbrev letters : ℕ → ℕ → List ℕ
 letters c d = cond (eqb d 0) (c ∷ []) (c ∷ d ∷ [])
 
-is_eq : (o : Ordering) → compare_is_eq o ≡ true → o ≡ Ordering.eq
-is_eq Ordering.lt e = cc
-is_eq Ordering.eq e = refl
-is_eq Ordering.gt e = cc
-
 all_symbols : every (each 25 (λ k. compare_is_eq (lex compare (symbol_of k) (letters (get_or capitals k 0) (get_or smalls k 0))))) ≡ true
 unfolding every each from kinds symbol_of lex capitals smalls
 all_symbols = refl
@@ -85,7 +80,7 @@ all_symbols = refl
 symbol-at : (k : ℕ) → k ≤ 24 → symbol_of k ≡ letters (get_or capitals k 0) (get_or smalls k 0)
 symbol-at k h =
     (lex-order number-order).same _ _
-    (is_eq _ (every-true_below 25 (λ k. compare_is_eq (lex compare (symbol_of k) (letters (get_or capitals k 0) (get_or smalls k 0)))) all_symbols k (omega arith)))
+    (is_eq_true _ (every-true_below 25 (λ k. compare_is_eq (lex compare (symbol_of k) (letters (get_or capitals k 0) (get_or smalls k 0)))) all_symbols k (omega arith)))
 
 letters_first : (c d : ℕ) → get_or (letters c d) 0 0 ≡ c
 letters_first c d = go (eqb d 0)

@@ -6,6 +6,6 @@ kind_in (Some k) = k
 kind_in None = 25
 
 -- a letter, where 0 stands for none
-abbrev pub letter_in : ℕ → Option ℕ
-letter_in zero = None
-letter_in (suc n) = Some (suc n)
+abbrev pub letter_of : ℕ → Option ℕ
+letter_of zero = None
+letter_of (suc n) = Some (suc n)

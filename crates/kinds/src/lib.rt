@@ -3,7 +3,7 @@
 
 ghost use Rattle.std.specs.Prelude.{◌≡◌, [], ◌∷◌, ℕ, ◌≤◌, get_or};
 ghost use Rattle.molecule.specs.Kinds.{symbol_of, number_of, kind_of_symbol, kind_of_number};
-ghost use Rattle.kinds.specs.Known.{kind_in, letter_in};
+ghost use Rattle.kinds.specs.Known.{kind_in, letter_of};
 
 use std::marker::Model;
 
@@ -61,7 +61,8 @@ const BY_CAPITAL: [u8; 26] = [
 impl Kind {
     pub const H: Kind = Kind { number: 0 };
 
-    fn at(number: u8) -> Option<Kind>
+    // The kind that an entry of these arrays names.
+    fn of_entry(number: u8) -> Option<Kind>
         requires { number ≤ 25 }
         ensures { kind_in result ≡ number }
     {
@@ -78,7 +79,7 @@ impl Kind {
             return None;
         }
         let kind = BY_NUMBER[number as usize];
-        Kind::at(kind)
+        Kind::of_entry(kind)
     }
 
     // The kind whose symbol is this letter alone.
@@ -89,7 +90,7 @@ impl Kind {
             return None;
         }
         let kind = BY_CAPITAL[(letter - b'A') as usize];
-        Kind::at(kind)
+        Kind::of_entry(kind)
     }
 
     // The kind whose symbol is these two letters.
@@ -131,7 +132,7 @@ impl Kind {
 
     // The symbol's second letter, where it has two.
     pub fn small(self) -> Option<u8>
-        ensures { result ≡ letter_in (get_or (symbol_of self) 1 0) }
+        ensures { result ≡ letter_of (get_or (symbol_of self) 1 0) }
     {
         let letter = SMALLS[self.number as usize];
         if letter == 0 { None } else { Some(letter) }

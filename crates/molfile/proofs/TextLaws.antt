@@ -3,11 +3,10 @@ use Prim.Native.Nat.{ℕ, compare, Ordering}
 use mathlib.Core.Path.{◌≡◌, refl, sym, ap, ap₂, ◌∙◌}
 use mathlib.Core.List.{List, [], ◌∷◌}
 use mathlib.Core.Bool.{Bool, ◌&&◌}
-use native.Mathlib.Decide.{ℕ_discrete}
 use lib.Dec.{eqb, compare_is_eq}
 use lib.Pointwise.{pointwise}
-use borrow.Author.Tests.{eq-eqb, ne_eqb}
 use Rattle.lists.specs.Order.{or_else, lex}
+use Rattle.lists.proofs.Booleans.{eqb_swap}
 
 -- whether two lists of bytes are the same
 abbrev pub same : List ℕ → List ℕ → Bool
@@ -29,16 +28,9 @@ compared [] (y ∷ ys) = refl
 compared (x ∷ xs) [] = refl
 compared (x ∷ xs) (y ∷ ys) = ap (λ (b : Bool). eqb x y && b) (compared xs ys) ∙ sym (same_cons x y xs ys)
 
-either-way : (x y : ℕ) → eqb x y ≡ eqb y x
-either-way x y = go (ℕ_discrete x y)
-  where
-    go : Dec (x ≡ y) → eqb x y ≡ eqb y x
-    go (yes e) = eq-eqb x y e ∙ sym (eq-eqb y x (sym e))
-    go (no n) = ne_eqb x y n ∙ sym (ne_eqb y x (λ e. n (sym e)))
-
 pub compared_back : (xs ys : List ℕ) → pointwise eqb ys xs ≡ same xs ys
 unfolding lex
 compared_back [] [] = refl
 compared_back [] (y ∷ ys) = refl
 compared_back (x ∷ xs) [] = refl
-compared_back (x ∷ xs) (y ∷ ys) = ap₂ ◌&&◌ (either-way y x) (compared_back xs ys) ∙ sym (same_cons x y xs ys)
+compared_back (x ∷ xs) (y ∷ ys) = ap₂ ◌&&◌ (eqb_swap y x) (compared_back xs ys) ∙ sym (same_cons x y xs ys)

@@ -16,12 +16,14 @@ use Rattle.table.specs.declared.Table.{Table}
 use Rattle.table.specs.View.{view_of, TidyTable}
 use Rattle.card.specs.Reading.{IsRead}
 use Rattle.rules.specs.Answers.{numbered, of_card}
-use Rattle.rules.specs.Allowed as rules
 use Rattle.rules.specs.Allowed.{Allowed}
-use Rattle.scallopgrid.specs.Numbered.{Listed}
-use Rattle.scallopgrid.specs.Returned.{from_start, AnswersAs}
+use Rattle.outputs.specs.Numbered.{Listed}
+use Rattle.outputs.specs.declared.Accepted.{Accepted}
+use Rattle.outputs.specs.Left.{left_by, AnswersAs}
+use Rattle.scallopgrid.specs.declared.Answer as call
+use Rattle.scallopgrid.specs.Returned.{returned, answer_of, from_start}
 use Rattle.scallopgrid.proofs.Faults.{card-answers}
-use Rattle.scallopgrid.proofs.Steps.{listed, numbered-alike}
+use Rattle.scallopgrid.proofs.Alike.{listed, numbered-alike}
 use Rattle.scallopgrid.proofs.Runs.{run-read}
 
 module _ (card : List ℕ) where
@@ -59,7 +61,8 @@ module _ (card : List ℕ) where
 
 pub card-run : (bytes : Molecule → List ℕ) (alike : (M N : Molecule) → Renumbered (λ a. a) M N → Sound M → bytes N ≡ bytes M)
     (card : List ℕ) (allowance : ℕ) (lent : List ℕ) (r : Result Table Refusal) (read : Result Table Refused) → IsRead card r → read ≡ from_start r
-    → (left : rules.Result) → AnswersAs bytes read allowance lent left → Allowed (of_card bytes card allowance (length lent)) lent left
-card-run bytes alike card allowance lent r read R e left A =
+    → (o : Result Accepted Refused) (after : List ℕ) → AnswersAs bytes read allowance lent (left_by o after) → (c : call.Answer) → c ≡ answer_of o
+    → Allowed (of_card bytes card allowance (length lent)) lent (returned c after)
+card-run bytes alike card allowance lent r read R e o after A c f =
     run-read bytes (card_fault card) 0 (molecule_of card) allowance lent _ (card-answers bytes card allowance (length lent)) read (fault card r read R e)
-    (ap place_in e ∙ start-place card r) (same card r read R e bytes alike allowance (length lent)) left A
+    (ap place_in e ∙ start-place card r) (same card r read R e bytes alike allowance (length lent)) o after A c f

@@ -1,5 +1,5 @@
 pub mod Faults
-pub mod Steps
+pub mod Alike
 pub mod Molfiles
 pub mod Runs
 pub mod Read

@@ -15,17 +15,19 @@ use Rattle.molecule.proofs.Sound.{Sound}
 use Rattle.table.specs.declared.Table.{Table}
 use Rattle.table.specs.View.{view_of}
 use Rattle.rules.specs.Answers.{refused, numbered, name_out}
-use Rattle.rules.specs.Allowed as rules
 use Rattle.rules.proofs.Answered.{judged-faulty, judged-answered}
 use Rattle.ctfile.specs.Filed.{Verdict, sound, broken, verdict, drawing_of}
 use Rattle.ctfile.specs.Drawings.{folded, drawing_fault}
 use Rattle.ctfile.specs.Molfiles.{most_file, name_of_drawing, unless_broken, name_of_molfile, MolfileRun}
 use Rattle.ctfile.proofs.FoldedSound.{folded-sound}
 use Rattle.molfile.specs.Reading.{refusal_by, place_by, file_fault, fault_place, IsRead}
-use Rattle.scallopgrid.specs.Numbered.{Listed}
-use Rattle.scallopgrid.specs.Returned.{AnswersAs}
+use Rattle.outputs.specs.Numbered.{Listed}
+use Rattle.outputs.specs.declared.Accepted.{Accepted}
+use Rattle.outputs.specs.Left.{left_by, AnswersAs}
+use Rattle.scallopgrid.specs.declared.Answer as call
+use Rattle.scallopgrid.specs.Returned.{returned, answer_of}
 use Rattle.scallopgrid.proofs.Faults.{Answers}
-use Rattle.scallopgrid.proofs.Steps.{listed, numbered-alike, name_out-alike}
+use Rattle.scallopgrid.proofs.Alike.{listed, numbered-alike, name_out-alike}
 use Rattle.scallopgrid.proofs.Runs.{run-read}
 
 module _ (file : List ℕ) (allowance room : ℕ) where
@@ -67,9 +69,10 @@ module _ (file : List ℕ) (read : Result Table Refused) (R : IsRead file read) 
   pub molfile-listed : IfOk read Listed
   molfile-listed = listed (folded (drawing_of file)) read R.tidy R.view drawn
 
-  pub molfile_run : (allowance : ℕ) (lent : List ℕ) (left : rules.Result) → AnswersAs name_out read allowance lent left → MolfileRun file allowance lent left
-  molfile_run allowance lent left A =
-      run-read name_out (file_fault file) (fault_place file) (folded (drawing_of file)) allowance lent _ (molfile_answers file allowance (length lent)) read R.refusal R.place same left A
+  pub molfile_run : (allowance : ℕ) (lent : List ℕ) (o : Result Accepted Refused) (after : List ℕ) → AnswersAs name_out read allowance lent (left_by o after)
+      → (c : call.Answer) → c ≡ answer_of o → MolfileRun file allowance lent (returned c after)
+  molfile_run allowance lent o after A c f =
+      run-read name_out (file_fault file) (fault_place file) (folded (drawing_of file)) allowance lent _ (molfile_answers file allowance (length lent)) read R.refusal R.place same o after A c f
     where
       same : (t : Table) → read ≡ Ok t → numbered name_out allowance (length lent) (view_of t) ≡ numbered name_out allowance (length lent) (folded (drawing_of file))
       same t e =

@@ -14,8 +14,10 @@ use Rattle.rules.specs.Answers.{refused, accepted, in_room, read_into, card_of}
 use Rattle.rules.specs.Runs.{CardRun}
 use Rattle.text.specs.Answering.{Answered}
 use Rattle.scallopgrid.specs.declared.Answer.{Answer}
-use Rattle.scallopgrid.specs.declared.answers.Accepted.{Accepted}
-use Rattle.scallopgrid.specs.Returned.{returned, answer_of, left_by, no_leaves}
+use Rattle.outputs.specs.declared.Accepted.{Accepted}
+use Rattle.outputs.specs.Left.{left_by}
+use Rattle.scallopgrid.specs.Returned.{returned, answer_of, no_leaves}
+use Rattle.scallopgrid.proofs.Runs.{run-returned}
 
 leafless : (o : Outcome) (room size : ℕ) → (read_into o room size).leaves ≡ 0
 unfolding in_room
@@ -36,5 +38,4 @@ outcome_run s lent after (Err p) A =
 pub run-text : (s lent after : List ℕ) (r : Result ℕ Refused) → Answered s lent after r → (q : Result Accepted Refused) → q ≡ no_leaves r
     → (a : Answer) → a ≡ answer_of q → CardRun s lent (returned a after)
 run-text s lent after r A q e a f =
-    subst (λ (b : Answer). CardRun s lent (returned b after)) (sym f)
-    (subst (λ (p : Result Accepted Refused). CardRun s lent (left_by p after)) (sym e) (outcome_run s lent after r A))
+    run-returned (CardRun s lent) q after (subst (λ (p : Result Accepted Refused). CardRun s lent (left_by p after)) (sym e) (outcome_run s lent after r A)) a f

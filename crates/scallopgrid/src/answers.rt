@@ -1,19 +1,11 @@
-// A table that was read or refused, numbered and written: what comes of it.
-ghost use Rattle.std.specs.Prelude.{◌≡◌, IfOk};
-ghost use Rattle.scallopgrid.specs.Numbered.{Listed};
-ghost use Rattle.scallopgrid.specs.Returned.{returned, answer_of, left_by, AnswersAs, from_start, no_leaves};
+// What a call answers, of what came of its input.
+ghost use Rattle.std.specs.Prelude.{◌≡◌};
+ghost use Rattle.scallopgrid.specs.Returned.{answer_of, from_start, no_leaves};
 
 use crate::Answer;
-use crate::written::Output;
+use outputs::Accepted;
 use refusal::{Refusal, Refused};
 use table::Table;
-
-/// How many leaves a molecule has, and how many bytes were written.
-#[derive(Clone, Copy, Debug, PartialEq, Eq, Drop)]
-pub struct Accepted {
-    pub leaves: u32,
-    pub length: usize,
-}
 
 // A refusal, by its number and place, or what was accepted.
 pub fn answered(outcome: Result<Accepted, Refused>) -> Answer
@@ -53,29 +45,4 @@ pub fn without_leaves(read: Result<usize, Refused>) -> Result<Accepted, Refused>
         Ok(length) => Ok(Accepted { leaves: 0, length }),
         Err(p) => Err(p),
     }
-}
-
-// A refusal that the table came with stands; then 9; then 10.
-fn written<O: Output>(
-    read: Result<Table, Refused>,
-    allowance: u16,
-    out: &mut [u8],
-) -> Result<Accepted, Refused>
-    requires { IfOk read Listed }
-    ensures { AnswersAs O.bytes_of read allowance out.old (left_by result out.new) }
-{
-    let t = read?;
-    let n = numbering::numbered(&t, allowance)?;
-    let length = O::write(&t, &n, out)?;
-    Ok(Accepted {
-        leaves: n.leaves,
-        length,
-    })
-}
-
-pub fn answer<O: Output>(read: Result<Table, Refused>, allowance: u16, out: &mut [u8]) -> Answer
-    requires { IfOk read Listed }
-    ensures { AnswersAs O.bytes_of read allowance out.old (returned result out.new) }
-{
-    answered(written::<O>(read, allowance, out))
 }

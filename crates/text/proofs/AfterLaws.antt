@@ -1,8 +1,8 @@
 -- The state after an item that was not refused: there is room for what it adds, and it is the one that the rules say.
-use Prim.Native.Nat.{ℕ, suc, ◌+◌, ◌≤◌, ◌<◌}
+use Prim.Native.Nat.{ℕ, ◌+◌, ◌≤◌, ◌<◌}
 use mathlib.Core.Path.{◌≡◌, refl, sym, ap, subst, ◌∙◌}
 use mathlib.Core.List.{[], ◌∷◌, ◌++◌}
-use mathlib.Core.Bool.{Bool, true, false, cond}
+use mathlib.Core.Bool.{false}
 use native.Mathlib.Omega.{arith}
 use lib.ListN.{length, length-append}
 use borrow.Author.Tests.{eq-eqb, ne_eqb, eqb-false, leb-false}
@@ -10,16 +10,11 @@ use Rattle.sling.specs.Items.{Target, Item, atom, reference, ring}
 use Rattle.sling.specs.Reading as rules
 use Rattle.sling.specs.Reading.{place_of, after, drawn, hydrogens_on, bonds_on}
 use Rattle.sling.specs.Faults.{misplaced, unknown, missing, broken_h, bad_bond, heavy_bonds, item_fault}
-use Rattle.lists.proofs.Booleans.{or_neither}
+use Rattle.lists.proofs.Booleans.{or_neither, unless}
 use Rattle.text.specs.declared.state.State.{State}
 use Rattle.text.specs.Holding.{view_of, Tallied, Reached, Held, Judged, Drawable, grown_by, moved_to, bonded_by}
 use Rattle.text.proofs.ReachedLaws.{reached-after, reached-reader, reached-room, reached-places, reached-bonds, no_places}
 use Rattle.text.proofs.StateLaws.{view_places, view-bonds, grown_hydrogens_on, grown_bonds_on, grown_heavy_bonds}
-
--- the first test of a cascade fails, and so on
-passed : (b : Bool) (n m : ℕ) → cond b (suc n) m ≡ 0 → (b ≡ false) × (m ≡ 0)
-passed true n m e = absurd (omega arith)
-passed false n m e = (refl, e)
 
 record Clear (s : rules.State) (i : Item) : Type 0 where
   two : misplaced s i ≡ false
@@ -29,11 +24,11 @@ record Clear (s : rules.State) (i : Item) : Type 0 where
 clear_of : (s : rules.State) (i : Item) → item_fault s i ≡ 0 → Clear s i
 unfolding item_fault
 clear_of s i e =
-    let a = passed (misplaced s i) 1 _ e in
-    let b = passed (unknown i) 2 _ a.1 in
-    let c = passed (missing s i) 4 _ b.1 in
-    let d = passed (broken_h s i) 6 _ c.1 in
-    let f = passed (bad_bond s i) 5 _ d.1 in
+    let a = unless (misplaced s i) 1 _ e in
+    let b = unless (unknown i) 2 _ a.1 in
+    let c = unless (missing s i) 4 _ b.1 in
+    let d = unless (broken_h s i) 6 _ c.1 in
+    let f = unless (bad_bond s i) 5 _ d.1 in
     record { two = a.0; five = c.0; six = f.0 }
 
 pub held_by : (r : State) (s : rules.State) (i : Item) → Tallied r → view_of r ≡ after s i → Reached s → Judged s i → Held r

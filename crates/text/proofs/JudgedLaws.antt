@@ -28,13 +28,13 @@ use Rattle.text.specs.Changing.{fresh, Climbable}
 use Rattle.text.specs.Judging.{wrong_h, paired_in, over_with, Few, counts_of, atom_fault, ring_fault, reference_fault, Judges}
 use Rattle.text.proofs.ReachedLaws.{reached-reader, reached-room}
 use Rattle.text.proofs.StateLaws.{view_places, view-kind}
-use Rattle.text.proofs.ReadLaws.{number-some}
+use Rattle.refusal.proofs.Numbers.{number_of-positive}
 use Rattle.text.proofs.FaultLaws.{atom-fault, ring-fault, reference-fault, ring-named, reference-named}
 
 -- a refusal has a number, so that a test that led to one holds, and one that led to none does not
 fault_is : (q : Refusal) (b : Bool) (n : ℕ) → number_of q ≡ cond b n 0 → (b ≡ true) × (number_of q ≡ n)
 fault_is q true n e = (refl, e)
-fault_is q false n e = absurd (omega (arith, number-some q))
+fault_is q false n e = absurd (omega (arith, number_of-positive q))
 
 -- no fault
 abbrev pub NoFault : ℕ → Type 0

@@ -6,9 +6,6 @@ use native.Mathlib.Nat.{add-zero}
 use native.Mathlib.Omega.{arith}
 use lib.ListN.{length, drop, drop_of_length-le}
 use lib.Seq.{drop-cons, drop-drop}
-use Rattle.refusal.specs.declared.Refusal.{Refusal}
-use Rattle.refusal.specs.declared.Refusal.TheVariants.{NoAtoms, Malformed, UnknownKind, OverLimit, NotThere, WrongBond, WrongHydrogen, NotConnected, OverAllowance, NoRoom, BrokenLine}
-use Rattle.refusal.specs.Numbers.{number_of}
 use Rattle.sling.specs.Items.{Item}
 use Rattle.sling.specs.Scanned.{Token, tok, got, broken, scan, token, tokens}
 use Rattle.sling.specs.Reading.{State, after}
@@ -50,20 +47,6 @@ module _ (s : List ℕ) (i : ℕ) (h : i < length s) where
 
     pub run-next : (S : State) → item_fault S it ≡ 0 → run (tokens (drop next s) 0 next) (after S it) ≡ run (tokens (drop i s) 0 i) S
     run-next S z = sym (at_item S ∙ rw z)
-
--- a refusal has a number
-pub number-some : (r : Refusal) → 0 < number_of r
-number-some NoAtoms = omega arith
-number-some Malformed = omega arith
-number-some UnknownKind = omega arith
-number-some OverLimit = omega arith
-number-some NotThere = omega arith
-number-some WrongBond = omega arith
-number-some WrongHydrogen = omega arith
-number-some NotConnected = omega arith
-number-some OverAllowance = omega arith
-number-some NoRoom = omega arith
-number-some BrokenLine = omega arith
 
 pub run_end : (s : List ℕ) (i : ℕ) (S : State) → length s ≤ i → finished S ≡ run (tokens (drop i s) 0 i) S
 unfolding run tokens

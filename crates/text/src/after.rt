@@ -1,4 +1,4 @@
-// The state after an item.
+// The state after a step.
 ghost use Rattle.sling.specs.Items.{atom};
 ghost use Rattle.text.specs.Changing.{Continues, Follows};
 ghost use Rattle.text.specs.Judging.{step_of};
@@ -22,7 +22,6 @@ impl State {
         }
     }
 
-    // A step taken.
     pub fn follow(&mut self, step: Step)
         requires { Continues self.old (step_of step) }
         ensures { Follows self.old (step_of step) self.new }

@@ -12,7 +12,7 @@ use crate::item::{Place, Target};
 use kinds::Kind;
 use table::Table;
 
-// An atom of a text: its kind, the place at which it was attached (a byte, since fewer than 192 places are there), and how many bonds to an H
+// An atom of a text: its kind, the place at which it was attached (a byte, since every place is below 192), and how many bonds to an H
 // and how many others are drawn on it.
 #[derive(Clone, Copy, Drop)]
 pub struct TextAtom {
@@ -210,7 +210,7 @@ impl State {
         self.cursor = to;
     }
 
-    // Whether all that was read is an H, which has no bond then.
+    // Whether an H alone was read, or nothing, as the rules have it.
     pub fn lone_h(&self) -> bool
         requires { Held self.now }
         ensures { result ≡ lone_h (view_of self.now) }

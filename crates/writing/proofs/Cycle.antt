@@ -9,6 +9,7 @@ use borrow.Author.Tests.{lt-ltb, ltb-true, ltb-false}
 use Rattle.molecule.specs.Molecule.{Molecule}
 use Rattle.sling.specs.Walk.{kind_at, hydrogens_at, neighbours_at, code_at, Written, place_in, is_written, is_traced, serve, put, close, put_hs, trace, traces, finish}
 use Rattle.sling.proofs.Places.{On, on-new, place-new}
+use Rattle.sling.proofs.Strokes.{put_at, put-served, close-served}
 use Rattle.std.specs.Prelude.{Option, Some, None}
 use Rattle.std.proofs.lemmas.List.{get_or_default}
 use Rattle.table.specs.declared.Table.{Table}
@@ -17,7 +18,6 @@ use Rattle.writing.specs.declared.strokes.Pen.{Pen}
 use Rattle.writing.specs.declared.walk.Sheet.{Sheet}
 use Rattle.writing.specs.Shown.{size, At, held, Lettered, Noted, marked}
 use Rattle.writing.specs.Walked.{Lent, Shows, Finishing, Tracing}
-use Rattle.writing.proofs.Serving.{put_at, put-served, close-served}
 use Rattle.writing.proofs.Further.{further_serve, serve_before-put, serve_before-close, further_hs, further_traces, further_finish, traces-append}
 use Rattle.writing.proofs.Notes.{noted_put, noted_close, noted_hs}
 use Rattle.writing.proofs.Rows.{row_next, row-end}

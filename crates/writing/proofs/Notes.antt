@@ -16,9 +16,9 @@ use Rattle.molecule.specs.Bonds.{Bond, joins}
 use Rattle.sling.specs.Walk.{Written, place_in, is_traced, put_hs}
 use Rattle.lists.proofs.Tested.{some-snoc}
 use Rattle.sling.proofs.Places.{On, place-more, on-more, place-new, on-new, on-cases, places-differ}
+use Rattle.sling.proofs.Strokes.{put_at, close_at, put-served}
 use Rattle.std.specs.Prelude.{Option, Some, None}
 use Rattle.writing.specs.Shown.{Noted, marked, held}
-use Rattle.writing.proofs.Serving.{put_at, close_at, put-served}
 
 -- where a rank is not written, its place is past all that are
 far : (l : List ℕ) (x : ℕ) → (On l x → ⊥) → length l ≤ place_in l x

@@ -2,7 +2,7 @@
 use mathlib.Core.Bool.{true, cond}
 use mathlib.Core.List.{List, [], ◌∷◌}
 use mathlib.Core.Path.{◌≡◌, refl, ap, ◌∙◌}
-use Prim.Native.Nat.{ℕ, zero, suc, ◌≤◌, compare, Ordering}
+use Prim.Native.Nat.{ℕ, zero, suc, ◌≤◌, compare}
 use native.Mathlib.Omega.{arith}
 use lib.ListN.{get_or}
 use lib.Dec.{eqb, compare_is_eq}
@@ -10,11 +10,11 @@ use borrow.Author.Tests.{ne_eqb}
 use Rattle.lists.specs.Upto.{from, each}
 use Rattle.lists.specs.Tests.{every}
 use Rattle.lists.specs.Order.{lex}
-use Rattle.lists.proofs.Order.{number-order, lex-order}
+use Rattle.lists.proofs.Order.{number-order, lex-order, is_eq_true}
 use Rattle.lists.proofs.Tested.{every-true_below}
 use Rattle.molecule.specs.Kinds.{kinds, symbol_of}
 use Rattle.std.specs.Prelude.{Some, None}
-use Rattle.kinds.specs.Known.{letter_in}
+use Rattle.kinds.specs.Known.{letter_of}
 use Rattle.sling.specs.Printed.{symbol_bytes}
 
 abbrev spelled : ℕ → ℕ → List ℕ
@@ -24,26 +24,21 @@ all_spelled : every (each 25 (λ k. compare_is_eq (lex compare (symbol_bytes k) 
 unfolding every each from symbol_of kinds lex
 all_spelled = refl
 
-is_eq : (o : Ordering) → compare_is_eq o ≡ true → o ≡ Ordering.eq
-is_eq Ordering.lt e = cc
-is_eq Ordering.eq e = refl
-is_eq Ordering.gt e = cc
-
 symbol-spelled : (k : ℕ) → k ≤ 24 → symbol_bytes k ≡ spelled (get_or (symbol_of k) 0 0) (get_or (symbol_of k) 1 0)
 symbol-spelled k h =
-    (lex-order number-order).same _ _ (is_eq _ (every-true_below 25 (λ j. compare_is_eq (lex compare (symbol_bytes j) (spelled (get_or (symbol_of j) 0 0) (get_or (symbol_of j) 1 0)))) all_spelled k (omega arith)))
+    (lex-order number-order).same _ _ (is_eq_true _ (every-true_below 25 (λ j. compare_is_eq (lex compare (symbol_bytes j) (spelled (get_or (symbol_of j) 0 0) (get_or (symbol_of j) 1 0)))) all_spelled k (omega arith)))
 
 -- by its letters, where the second is there or is not
-pub symbol_one : (k : ℕ) → k ≤ 24 → letter_in (get_or (symbol_of k) 1 0) ≡ None → symbol_bytes k ≡ get_or (symbol_of k) 0 0 ∷ []
+pub symbol_one : (k : ℕ) → k ≤ 24 → letter_of (get_or (symbol_of k) 1 0) ≡ None → symbol_bytes k ≡ get_or (symbol_of k) 0 0 ∷ []
 symbol_one k h e = symbol-spelled k h ∙ spell (get_or (symbol_of k) 0 0) (get_or (symbol_of k) 1 0) e
   where
-    spell : (c s : ℕ) → letter_in s ≡ None → spelled c s ≡ c ∷ []
+    spell : (c s : ℕ) → letter_of s ≡ None → spelled c s ≡ c ∷ []
     spell c zero e = refl
     spell c (suc s) e = cc
 
-pub symbol_two : (k x : ℕ) → k ≤ 24 → letter_in (get_or (symbol_of k) 1 0) ≡ Some x → symbol_bytes k ≡ 40 ∷ get_or (symbol_of k) 0 0 ∷ x ∷ 41 ∷ []
+pub symbol_two : (k x : ℕ) → k ≤ 24 → letter_of (get_or (symbol_of k) 1 0) ≡ Some x → symbol_bytes k ≡ 40 ∷ get_or (symbol_of k) 0 0 ∷ x ∷ 41 ∷ []
 symbol_two k x h e = symbol-spelled k h ∙ spell (get_or (symbol_of k) 0 0) (get_or (symbol_of k) 1 0) e
   where
-    spell : (c s : ℕ) → letter_in s ≡ Some x → spelled c s ≡ 40 ∷ c ∷ x ∷ 41 ∷ []
+    spell : (c s : ℕ) → letter_of s ≡ Some x → spelled c s ≡ 40 ∷ c ∷ x ∷ 41 ∷ []
     spell c zero e = cc
     spell c (suc s) e = let f : suc s ≡ x = cc in rw (ne_eqb (suc s) 0 (λ (z : suc s ≡ 0). omega arith)) (ap (λ (y : ℕ). 40 ∷ c ∷ y ∷ 41 ∷ []) f)

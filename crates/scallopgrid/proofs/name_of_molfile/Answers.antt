@@ -2,8 +2,8 @@
 use Rattle.scallopgrid.proofs.Molfiles.{molfile-listed, molfile_run}
 use Rattle.scallopgrid.proofs.name_of_molfile.Goals as goal
 
-pub answer-requires : goal.answer-requires
-answer-requires c = molfile-listed _ _ c.read.ensures
+pub written-requires : goal.written-requires
+written-requires c = molfile-listed _ _ c.read.ensures
 
 pub returns : goal.returns
-returns c = molfile_run _ _ c.read.ensures _ _ _ c.answer.ensures
+returns c = molfile_run _ _ c.read.ensures _ _ _ _ c.written.ensures _ c.answered.ensures

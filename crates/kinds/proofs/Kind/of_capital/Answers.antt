@@ -13,10 +13,10 @@ returns-then-letter-lt65 c =
     (λ h k.
     elim c.then-letter-lt65.branch [ then-letter-lt65-via-then-letter-lt65 w ↦ omega (arith, w.if-letter-lt65.true) | then-letter-lt65-via-else-letter-lt65+then-letter-gt90 w ↦ omega (arith, w.if-letter-gt90.true) ]))
 
-pub at-requires : goal.at-requires
+pub of_entry-requires : goal.of_entry-requires
 unfolding by_capital
-at-requires c = omega (arith, capital_at c.args.letter (omega arith) (omega arith), kind_of_symbol-low (c.args.letter ∷ []))
+of_entry-requires c = omega (arith, capital_at c.args.letter (omega arith) (omega arith), kind_of_symbol-low (c.args.letter ∷ []))
 
 pub returns : goal.returns
 unfolding by_capital
-returns c = c.at.ensures ∙ capital_at c.args.letter (omega arith) (omega arith)
+returns c = c.of_entry.ensures ∙ capital_at c.args.letter (omega arith) (omega arith)

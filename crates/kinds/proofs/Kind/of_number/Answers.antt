@@ -7,10 +7,10 @@ use Rattle.kinds.proofs.Kind.of_number.Goals as goal
 pub returns-then-number-gt83 : goal.returns-then-number-gt83
 returns-then-number-gt83 c = sym (no_number c.args.number c.if-number-gt83.true)
 
-pub at-requires : goal.at-requires
+pub of_entry-requires : goal.of_entry-requires
 unfolding by_number
-at-requires c = omega (arith, kind-at c.args.number c.if-number-gt83.false, kind_of_number-low c.args.number)
+of_entry-requires c = omega (arith, kind-at c.args.number c.if-number-gt83.false, kind_of_number-low c.args.number)
 
 pub returns : goal.returns
 unfolding by_number
-returns c = c.at.ensures ∙ kind-at c.args.number c.if-number-gt83.false
+returns c = c.of_entry.ensures ∙ kind-at c.args.number c.if-number-gt83.false

@@ -1,12 +1,9 @@
 -- One law of FormLaws for each way through the test.
-use Rattle.std.proofs.Common.{◌≡◌, true, false, not, sym, ◌∙◌, ap}
+use Rattle.std.proofs.Common.{true, false, true≢false, not, sym, ◌∙◌, ap}
 use Rattle.ctfile.specs.Fields.{are_blank}
 use Rattle.molfile.proofs.FormLaws.{is-zero, atom-blank, atom-mass, atom-charge}
 use Rattle.molfile.proofs.forms.is_atom_line.Goals.{then-not-are_blank, else-not-are_blank}
 use Rattle.molfile.proofs.forms.is_atom_line.Goals as goal
-
-never : {A : Type 0} → true ≡ false → A
-never e = absurd (cc)
 
 pub returns-then-eq : goal.returns-then-eq
 returns-then-eq c =
@@ -15,7 +12,7 @@ returns-then-eq c =
     elim c.if-not-are_blank.branch [
       | then-not-are_blank w ↦ c.eq-then-eq.ensures ∙ is-zero _ _ c.number_at.ensures ∙ atom-charge l (b ∙ w.if-not-are_blank.true)
           (sym (is-zero _ _ w.size_at.ensures) ∙ sym w.eq.ensures ∙ sym w.value-is ∙ c.if-eq.true)
-      | else-not-are_blank w ↦ never (sym c.if-eq.true ∙ w.value-is ∙ ap not w.if-not-are_blank.false)
+      | else-not-are_blank w ↦ absurd (true≢false (sym c.if-eq.true ∙ w.value-is ∙ ap not w.if-not-are_blank.false))
     ]
 
 pub returns-else-eq : goal.returns-else-eq

@@ -1,5 +1,5 @@
 -- One law of PropertyLaws for each way through the test.
-use Rattle.std.proofs.Common.{ℕ, ◌≡◌, true, false, sym, ◌∙◌, ap}
+use Rattle.std.proofs.Common.{ℕ, ◌≡◌, true, false, true≢false, sym, ◌∙◌, ap}
 use lib.Dec.{eqb}
 use borrow.Author.Tests.{eq-eqb, ne_eqb}
 use Rattle.ctfile.specs.Fields.{is_blank}
@@ -7,9 +7,6 @@ use Rattle.molfile.proofs.FormLaws.{is-zero}
 use Rattle.molfile.proofs.PropertyLaws.{entry-before, entry-between, entry-atom, entry_value}
 use Rattle.molfile.proofs.properties.is_entry.Goals.{then-column-eq-BLANK, else-column-eq-BLANK, then-column-eq-BLANK-2, else-column-eq-BLANK-2}
 use Rattle.molfile.proofs.properties.is_entry.Goals as goal
-
-never : {A : Type 0} → true ≡ false → A
-never e = absurd (cc)
 
 blank : (a b : ℕ) → a ≡ b → a ≡ 32 → is_blank b ≡ true
 blank a b e f = eq-eqb b 32 (sym e ∙ f)
@@ -26,11 +23,11 @@ returns-then-names_atom c =
             (blank _ _ c.column.ensures w.if-column-eq-BLANK.true)
             (ap (λ (x : ℕ). eqb x 32) (sym w.column-then-column-eq-BLANK.ensures) ∙ sym w.value-is ∙ v.if-column-eq-BLANK-2.true)
             (sym v.names_atom.ensures ∙ sym v.value-is ∙ c.if-names_atom.true)
-        | else-column-eq-BLANK-2 v ↦ never (sym c.if-names_atom.true ∙ v.value-is ∙ v.if-column-eq-BLANK-2.false)
+        | else-column-eq-BLANK-2 v ↦ absurd (true≢false (sym c.if-names_atom.true ∙ v.value-is ∙ v.if-column-eq-BLANK-2.false))
       ]
       | else-column-eq-BLANK w ↦ elim c.if-column-eq-BLANK-2.branch [
-        | then-column-eq-BLANK-2 v ↦ never (sym v.if-column-eq-BLANK-2.true ∙ w.value-is ∙ ne_eqb _ _ w.if-column-eq-BLANK.false)
-        | else-column-eq-BLANK-2 v ↦ never (sym c.if-names_atom.true ∙ v.value-is ∙ v.if-column-eq-BLANK-2.false)
+        | then-column-eq-BLANK-2 v ↦ absurd (true≢false (sym v.if-column-eq-BLANK-2.true ∙ w.value-is ∙ ne_eqb _ _ w.if-column-eq-BLANK.false))
+        | else-column-eq-BLANK-2 v ↦ absurd (true≢false (sym c.if-names_atom.true ∙ v.value-is ∙ v.if-column-eq-BLANK-2.false))
       ]
     ]
 

@@ -4,7 +4,8 @@ use Rattle.sling.specs.Scanned.{tokens}
 use Rattle.sling.specs.Faults.{run}
 use Rattle.text.specs.Holding.{view_of}
 use Rattle.text.proofs.ResolvedLaws.{resolved-after, resolved-code, resolved-fault}
-use Rattle.text.proofs.ReadLaws.{number-some, run-broken, run-fault, run-next, run_end}
+use Rattle.refusal.proofs.Numbers.{number_of-positive}
+use Rattle.text.proofs.ReadLaws.{run-broken, run-fault, run-next, run_end}
 use Rattle.text.proofs.read.read.Goals as goal
 
 pub loop-at-init : goal.loop-at-init
@@ -23,7 +24,7 @@ returns-in-Err c =
     let L = c.loop-at in
     let g = c.in-Some.ensures.sane in
     record {
-      is = run-fault _ L.at c.loop-at-test.true _ c.in-Some.scanned.next g.0 (sym c.in-Some.ensures.is) (view_of L.state) _ c.in-Err.ensures.refusal (number-some c.in-Err.refusal) ∙ L.invariant.1;
+      is = run-fault _ L.at c.loop-at-test.true _ c.in-Some.scanned.next g.0 (sym c.in-Some.ensures.is) (view_of L.state) _ c.in-Err.ensures.refusal (number_of-positive c.in-Err.refusal) ∙ L.invariant.1;
       held = tt;
     }
 

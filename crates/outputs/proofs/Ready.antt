@@ -1,10 +1,6 @@
--- What came in read, numbered and put in rank order: what is then written is what the answers ask for, since each step's view is the last one's.
-use mathlib.Core.List.{List}
-use mathlib.Core.Path.{◌≡◌, refl, sym, subst}
+-- A table with its numbering, put in rank order: what is then written is what the answers ask for, since each step's view is the last one's.
+use mathlib.Core.Path.{◌≡◌, sym, subst}
 use Prim.Native.Nat.{ℕ, ◌≤◌}
-use Rattle.std.specs.Prelude.{Result, Ok, Err, IfOk}
-use Rattle.refusal.specs.declared.Refused.{Refused}
-use Rattle.refusal.specs.Numbers.{refused_in}
 use Rattle.molecule.specs.Molecule.{Molecule}
 use Rattle.molecule.specs.Renumbering.{Renumbered}
 use Rattle.molecule.specs.Written.{card_bytes}
@@ -26,37 +22,10 @@ use Rattle.numbering.specs.Renumber.{Plain}
 use Rattle.numbering.proofs.Answers.{best-complete, best-canonical}
 use Rattle.writing.specs.Nameable.{Nameable}
 use Rattle.writing.proofs.Top.{sound-nameable}
-use Rattle.rules.specs.Answers.{in_room, numbered, name_out, canonical_out, marks_out}
-use Rattle.rules.proofs.Through.{leaves-through, marks-through, name-through, card-through}
-use Rattle.scallopgrid.specs.Numbered.{Listed, Ready}
+use Rattle.rules.specs.Answers.{name_out, canonical_out, marks_out}
+use Rattle.rules.proofs.Through.{name-through, card-through}
+use Rattle.outputs.specs.Numbered.{Ready}
 
--- the three that are written do not depend on which of two like molecules is seen
-module _ {M N : Molecule} (E : Renumbered (λ a. a) M N) (S : Sound M) where
-  pub name_out-alike : name_out N ≡ name_out M
-  unfolding name_out
-  name_out-alike = name-through E (renumbered_refl (canonical rule1 N)) S.some
-
-  pub canonical_out-alike : canonical_out N ≡ canonical_out M
-  unfolding canonical_out
-  canonical_out-alike = card-through E (renumbered_refl (canonical rule1 N))
-
-  pub marks_out-alike : marks_out N ≡ marks_out M
-  unfolding marks_out
-  marks_out-alike = marks-through E
-
--- neither does the answer
-pub numbered-alike : (bytes : Molecule → List ℕ) (allowance room : ℕ) (M N : Molecule) → Renumbered (λ a. a) M N → bytes N ≡ bytes M
-    → numbered bytes allowance room N ≡ numbered bytes allowance room M
-unfolding numbered in_room
-numbered-alike bytes allowance room M N E e = rw (leaves-through E, e)
-
--- a reader's table is listed where the molecule that it reads is sound
-pub listed : (M : Molecule) (read : Result Table Refused) → IfOk read TidyTable → IfOk read (λ t. Renumbered (λ a. a) M (view_of t)) → (refused_in read ≡ 0 → Sound M)
-    → IfOk read Listed
-listed M (Ok t) T E S = record { tidy = T; sound = sound-along E (S refl) }
-listed M (Err p) T E S = tt
-
--- A table that is ready, in rank order.
 module _ (t : Table) (n : Numbering) (R : Ready t n) where
   abbrev Seen : Molecule
   Seen = view_of t

@@ -3,8 +3,8 @@ use mathlib.Core.List.{List}
 use mathlib.Core.Path.{subst}
 use Prim.Native.Nat.{ℕ}
 use Rattle.lent.specs.Written.{Written}
-use Rattle.scallopgrid.proofs.Steps.{plain, card-is}
-use Rattle.scallopgrid.proofs.written.CanonicalCardOutput.write.Goals as goal
+use Rattle.outputs.proofs.Ready.{plain, card-is}
+use Rattle.outputs.proofs.CanonicalCardOutput.write.Goals as goal
 
 pub renumbered-requires : goal.renumbered-requires
 renumbered-requires c = plain _ _ c.requires

@@ -3,8 +3,8 @@ use mathlib.Core.List.{List}
 use mathlib.Core.Path.{subst}
 use Prim.Native.Nat.{ℕ}
 use Rattle.lent.specs.Written.{Written}
-use Rattle.scallopgrid.proofs.Steps.{plain, nameable, name-is}
-use Rattle.scallopgrid.proofs.written.NameOutput.write.Goals as goal
+use Rattle.outputs.proofs.Ready.{plain, nameable, name-is}
+use Rattle.outputs.proofs.NameOutput.write.Goals as goal
 
 pub renumbered-requires : goal.renumbered-requires
 renumbered-requires c = plain _ _ c.requires

@@ -1,8 +1,8 @@
 -- By the step that stops: what came refused, too many leaves, too little room; or none, and the bytes are written.
 use Rattle.std.proofs.lemmas.Result.{err_from_is_err_and}
 use Rattle.std.specs.Prelude.{Ok}
-use Rattle.scallopgrid.proofs.Runs.{as_refused, as_numbered, as_many, as_short, run-written}
-use Rattle.scallopgrid.proofs.answers.written.Goals as goal
+use Rattle.outputs.proofs.Runs.{as_refused, as_numbered, as_many, as_short, run-written}
+use Rattle.outputs.proofs.written.Goals as goal
 
 pub returns-in_err-t : goal.returns-in_err-t
 returns-in_err-t g c =

@@ -3,8 +3,8 @@ use mathlib.Core.List.{List}
 use mathlib.Core.Path.{subst}
 use Prim.Native.Nat.{ℕ}
 use Rattle.lent.specs.Written.{Written}
-use Rattle.scallopgrid.proofs.Steps.{marks-few, marks-are}
-use Rattle.scallopgrid.proofs.written.ClassMarksOutput.write.Goals as goal
+use Rattle.outputs.proofs.Ready.{marks-few, marks-are}
+use Rattle.outputs.proofs.ClassMarksOutput.write.Goals as goal
 
 pub write-requires : goal.write-requires
 write-requires c = marks-few _ _ c.requires
