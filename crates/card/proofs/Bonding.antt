@@ -67,8 +67,8 @@ module _ (s : List ℕ) where
           rest = B.rest ∙ rest_next (bond_fault s) (bond_count s) k l (sym judged ∙ z);
         }
 
-    pub bonding_stop : k < bond_count s → (q : Result Unit Refusal) (r : Refusal) → q ≡ Err r
-        → number_of r ≡ bond_tested n t.rows.degrees t.rows.near t.rows.codes (bond_in place) → BondsRead s t q
+    pub bonding_stop : k < bond_count s → (q : Result Table Refusal) (r : Refusal) → q ≡ Err r
+        → number_of r ≡ bond_tested n t.rows.degrees t.rows.near t.rows.codes (bond_in place) → BondsRead s q
     bonding_stop l q r e g = rw e (record {
       refusal =
           let w : bond_fault s k ≢ 0 = λ x. number_of-some r (g ∙ judged ∙ x) in
@@ -76,7 +76,7 @@ module _ (s : List ℕ) where
       table = tt;
     })
 
-  pub bonding_done : (t : Table) (k : ℕ) → Bonding s t k → k ≡ bond_count s → BondsRead s t (Ok tt)
+  pub bonding_done : (t : Table) (k : ℕ) → Bonding s t k → k ≡ bond_count s → BondsRead s (Ok t)
   bonding_done t k B e = record {
     refusal = sym (B.rest ∙ rest_end (bond_fault s) (bond_count s) k (omega arith));
     table = subst (λ (j : ℕ). Holds s (atom_count s) j t) e B.holds;

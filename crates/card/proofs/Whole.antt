@@ -81,11 +81,11 @@ module _ (s : List ℕ) where
         after-atoms : card_fault s ≡ or_next (bonds_fault s) (apart_fault s)
         after-atoms = after-counts ∙ or_next-none _ _ (sym A.refusal)
 
-        pub read-bonded : (t : Table) (q : Result Table Refusal) (r : Refusal) → q ≡ Err r → BondsRead s t (Err r) → IsRead s q
-        read-bonded t q r e B =
+        pub read-bonded : (q : Result Table Refusal) (r : Refusal) → q ≡ Err r → BondsRead s (Err r) → IsRead s q
+        read-bonded q r e B =
             refuse q r e (after-atoms ∙ ap (λ (w : ℕ). or_next w (apart_fault s)) (sym B.refusal) ∙ or_next-some (number_of r) _ (number_of-some r))
 
-        module _ (t : Table) (B : BondsRead s t (Ok tt)) where
+        module _ (t : Table) (B : BondsRead s (Ok t)) where
           after-bonds : card_fault s ≡ apart_fault s
           after-bonds = after-atoms ∙ or_next-none _ _ (sym B.refusal)
 

@@ -21,7 +21,7 @@ use Rattle.card.specs.Writing.{PutIn}
 pub part-written : (l bs ys : List ℕ) (at k : ℕ) → at + length bs ≤ length l → ys ≡ bs → k ≡ length bs → put_mid at k l ys ≡ sets l at bs
 part-written l bs ys at k h e f = grind (arith, put_mid-paste at k l ys bs (length bs) e (sym f) refl, sets-eq bs l at h, take_all)
 
-sets_append : (l : List ℕ) (at : ℕ) (bs cs : List ℕ) → sets (sets l at bs) (at + length bs) cs ≡ sets l at (bs ++ cs)
+pub sets_append : (l : List ℕ) (at : ℕ) (bs cs : List ℕ) → sets (sets l at bs) (at + length bs) cs ≡ sets l at (bs ++ cs)
 sets_append l at [] cs = ap (λ (i : ℕ). sets l i cs) (add-zero at)
 sets_append l at (b ∷ bs) cs =
     let e : at + suc (length bs) ≡ suc at + length bs = omega arith in
@@ -56,7 +56,7 @@ module _ (f : ℕ → List ℕ) where
       subst (λ (bs : List ℕ). PutIn w bs w'') (sym (flatten_next p f) ∙ ap (λ (k : ℕ). flatten (each k f)) e)
       (put_more w w' w'' (flatten (each p f)) (f p) P Q)
 
-  pieces_room : (n p : ℕ) → p < n → length (flatten (each p f)) + length (f p) ≤ length (flatten (each n f))
+  pub pieces_room : (n p : ℕ) → p < n → length (flatten (each p f)) + length (f p) ≤ length (flatten (each n f))
   pieces_room zero p h = absurd (omega arith)
   pieces_room (suc n) p h = go (ℕ_discrete p n) (pieces_room n p)
     where

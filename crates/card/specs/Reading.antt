@@ -26,9 +26,9 @@ pub record AtomsRead (s : List ℕ) (r : Result Table Refusal) : Type 0 where
   pub table : IfOk r (Holds s (atom_count s) 0)
 
 -- the bonds are read into a table that has the atoms
-pub record BondsRead (s : List ℕ) (t : Table) (r : Result Unit Refusal) : Type 0 where
+pub record BondsRead (s : List ℕ) (r : Result Table Refusal) : Type 0 where
   pub refusal : refusal_in r ≡ bonds_fault s
-  pub table : IfOk r (λ _. Holds s (atom_count s) (bond_count s) t)
+  pub table : IfOk r (Holds s (atom_count s) (bond_count s))
 
 pub record IsRead (s : List ℕ) (r : Result Table Refusal) : Type 0 where
   pub refusal : refusal_in r ≡ card_fault s

@@ -37,12 +37,13 @@ pub fn bond_fault(n: usize, rows: &Rows, a: AtomNo, b: AtomNo, code: u8) -> Resu
     Ok(())
 }
 
-// The bonds in order, each put into the rows of the table.
+// The bonds in order, each put into the rows of the table. The table comes by value, so that a refusal leaves the caller's as it was.
 #[tactic(auto, using(crate::proofs::Layouts::laid_long))]
-pub fn read_bonds(card: &[u8], table: &mut Table, m: usize) -> Result<(), Refusal>
-    requires { (in_layout card.now ≡ true) × (m ≡ bond_count card.now) × Holds card.now (atom_count card.now) 0 table.old }
-    ensures { BondsRead card.now table.new result }
+pub fn read_bonds(card: &[u8], bare: Table, m: usize) -> Result<Table, Refusal>
+    requires { (in_layout card.now ≡ true) × (m ≡ bond_count card.now) × Holds card.now (atom_count card.now) 0 bare }
+    ensures { BondsRead card.now result }
 {
+    let mut table = bare;
     let n = table.n;
     let first = 2 * n + 6;
     for k in 0..m {
@@ -53,5 +54,5 @@ pub fn read_bonds(card: &[u8], table: &mut Table, m: usize) -> Result<(), Refusa
         bond_fault(n, &table.rows, a, b, code)?;
         table.rows.put_bond(a, b, code);
     }
-    Ok(())
+    Ok(table)
 }

@@ -1,7 +1,9 @@
 // Cards: any bytes to a table or a refusal, and a table to the bytes of its card.
 #![tactic(auto)]
 
+ghost use Rattle.std.specs.Prelude.{ℕ, ◌<◌, ◌≤◌};
 ghost use Rattle.lent.specs.Written.{Written};
+ghost use Rattle.molecule.specs.Molecule.{kind};
 ghost use Rattle.molecule.specs.Written.{card_bytes};
 ghost use Rattle.table.specs.View.{view_of, TidyTable};
 ghost use Rattle.card.specs.Reading.{IsRead};
@@ -23,8 +25,8 @@ pub fn read(card: &[u8]) -> Result<Table, Refusal>
         return Err(Refusal::Malformed);
     };
     layout::counts_fault(fields.atoms, fields.bonds)?;
-    let mut table = atoms::read_atoms(card, fields.atoms)?;
-    bonds::read_bonds(card, &mut table, fields.bonds)?;
+    let bare = atoms::read_atoms(card, fields.atoms)?;
+    let table = bonds::read_bonds(card, bare, fields.bonds)?;
     if !table.connected() {
         return Err(Refusal::NotConnected);
     }
@@ -33,7 +35,7 @@ pub fn read(card: &[u8]) -> Result<Table, Refusal>
 
 // Writes the card of a table: each bond with its lower atom first, bonds ascending. Its length is known before a byte is written.
 pub fn write(t: &Table, out: &mut [u8]) -> Result<usize, Refusal>
-    requires { TidyTable t.now }
+    requires { TidyTable t.now × ((a : ℕ) → a < (view_of t.now).size → kind (view_of t.now) a ≤ 24) }
     ensures { Written (card_bytes (view_of t.now)) out.old out.new result }
 {
     let bonds = writing::bonds_length(t);

@@ -9,20 +9,19 @@ use native.Mathlib.Omega.{arith}
 use lib.Dec.{eqb, ltb}
 use lib.ListN.{length, get_or, set, replicate, length-set, length-replicate, get_or-replicate, length-append, get_or-append}
 use lib.Seq.{get_or-append_seam, get_or-set_same, get_or-set_other}
-use borrow.Author.Tests.{ne_eqb, eqb-false, lt-ltb, le-ltb}
+use borrow.Author.Tests.{ne_eqb, eqb-false, lt-ltb, le-ltb, ltb-true, ltb-false}
 use Rattle.lists.specs.Upto.{from}
 use Rattle.lists.specs.Tests.{keep, count}
 use Rattle.lists.proofs.Upto.{each-get_or}
 use Rattle.lists.proofs.KeptBelow.{count-more, kept-count, kept-hit, kept-miss, kept_at}
 use Rattle.table.proofs.Unbonded.{unbonded_tidy, empty_row}
-use Rattle.table.specs.declared.Table.{Table}
 use Rattle.table.specs.declared.rows.Rows.{Rows}
 use Rattle.table.specs.View.{TidyTable}
 use Rattle.table.specs.Changes.{no_rows}
 use Rattle.card.proofs.Faults.{Rest, rest_stop, rest_next}
-use Rattle.std.specs.Prelude.{Option, Some, None, Ok, Err}
+use Rattle.std.specs.Prelude.{Option, Some, None, Result, Ok, Err}
 use Rattle.std.specs.Option.{ok_or}
-use Rattle.kinds.specs.Known.{kind_in}
+use Rattle.kinds.specs.Known.{kind_in, known_in}
 use Rattle.refusal.specs.declared.Refusal.{Refusal}
 use Rattle.drawing.specs.declared.folding.Folding.{Folding}
 use Rattle.drawing.specs.Tests.{heavy_in, unknown_tested}
@@ -30,13 +29,32 @@ use Rattle.drawing.specs.Folding.{empty_folding, heavies_to, with_kind, KindPut,
 use Rattle.drawing.proofs.CountLaws.{unknown, unknown-start}
 
 -- an atom's kind, where its symbol is known
-pub kind_known : (k : Option ℕ) (r : Refusal) (x : ℕ) → ok_or k r ≡ Ok x → kind_in k ≡ x
-kind_known (Some k) r x e = cc
+pub kind_known : (k : Option ℕ) (r : Refusal) (x : ℕ) → ok_or (known_in k) r ≡ Ok x → (kind_in k ≡ x) × (x ≤ 24)
 kind_known None r x e = cc
+kind_known (Some k) r x e = go (ltb k 25) refl
+  where
+    go : (b : Bool) → ltb k 25 ≡ b → (k ≡ x) × (x ≤ 24)
+    go true q = let z : k ≡ x = (let y = rw q at e in cc) in (z, omega (arith, ltb-true k 25 q))
+    go false q = let y = rw q at e in cc
 
-pub kind_unknown : (k : Option ℕ) (r s : Refusal) → ok_or k r ≡ Err s → (kind_in k ≡ 25) × (s ≡ r)
-kind_unknown (Some k) r s e = cc
-kind_unknown None r s e = (refl, cc)
+pub kind_unknown : (k : Option ℕ) (r s : Refusal) → ok_or (known_in k) r ≡ Err s → (24 < kind_in k) × (s ≡ r)
+kind_unknown None r s e = (omega arith, cc)
+kind_unknown (Some k) r s e = go (ltb k 25) refl
+  where
+    go : (b : Bool) → ltb k 25 ≡ b → (24 < k) × (s ≡ r)
+    go true q = let y = rw q at e in cc
+    go false q = let z : s ≡ r = (let y = rw q at e in cc) in (omega (arith, ltb-false k 25 q), z)
+
+-- both of what was looked up, and of what came of it
+module _ (k found : Option ℕ) (r : Refusal) (got : Result ℕ Refusal) (f : found ≡ known_in k) (g : got ≡ ok_or found r) where
+  looked : (o : Result ℕ Refusal) → got ≡ o → ok_or (known_in k) r ≡ o
+  looked o e = ap (λ (x : Option ℕ). ok_or x r) (sym f) ∙ sym g ∙ e
+
+  pub known_given : (x : ℕ) → got ≡ Ok x → (kind_in k ≡ x) × (x ≤ 24)
+  known_given x e = kind_known k r x (looked (Ok x) e)
+
+  pub unknown_given : (s : Refusal) → got ≡ Err s → (24 < kind_in k) × (s ≡ r)
+  unknown_given s e = kind_unknown k r s (looked (Err s) e)
 
 module _ (ks : List ℕ) where
   abbrev pub heavy : ℕ → Bool
@@ -86,7 +104,7 @@ module _ (ks : List ℕ) where
     heavies_hit f room = new_place (kept-hit heavy i (rw (sym (ap (λ (x : ℕ). eqb x 0) e) ∙ f))) room
 
   -- the numbers by place, one more
-  numbered_more : (l : List ℕ) (p x : ℕ) → p < length l → x ≡ length (heavies_to ks p) → ((q : ℕ) → q < p → get_or l q 0 ≡ length (heavies_to ks q))
+  pub numbered_more : (l : List ℕ) (p x : ℕ) → p < length l → x ≡ length (heavies_to ks p) → ((q : ℕ) → q < p → get_or l q 0 ≡ length (heavies_to ks q))
       → (q : ℕ) → q < p + 1 → get_or (set l p x) q 0 ≡ length (heavies_to ks q)
   numbered_more l p x h e f q k = pick (ℕ_discrete q p)
     where
@@ -167,24 +185,22 @@ module _ (ks : List ℕ) where
                 rest = next_rest;
               })
 
-  pub atoms_done : (f : Folding) → heavy_in ks ≤ 64 → AtomsTo (length ks) f → Bares ks f
-  atoms_done f few A = record {
-    tidy = tidy-made;
-    size = A.heavies.size;
-    kinds = A.heavies.kinds;
-    hydrogens = λ a h. ap (λ (l : List ℕ). get_or l a 0) A.hydrogens ∙ empty_row a (omega (arith, small));
-    degrees = λ a h. ap (λ (R : Rows). get_or R.degrees a 0) A.rows ∙ empty_row a (omega (arith, small));
-    numbers = A.numbers;
-    long = ap length A.used ∙ length-replicate {A = Bool} 999 false;
-    unused = λ p h. ap (λ (l : List Bool). get_or l p false) A.used ∙ get_or-replicate {A = Bool} 999 p false false h;
+  -- the atoms put, whatever their kinds
+  pub heavies_bare : (f : Folding) → f.table.n ≤ 64 → Heavies (length ks) f.table.n f.table.kinds → f.table.hydrogens ≡ replicate 64 0 → f.table.rows ≡ no_rows
+      → f.used ≡ replicate 999 false → ((p : ℕ) → p < length ks → get_or f.numbers p 0 ≡ length (heavies_to ks p)) → Bares ks f
+  heavies_bare f small B eh er eu N = record {
+    tidy =
+        subst TidyTable (λ i. record { n = f.table.n; kinds = f.table.kinds; hydrogens = sym eh i; rows = sym er i })
+        (unbonded_tidy f.table.n f.table.kinds (replicate 64 0) small B.long (length-replicate {A = ℕ} 64 0));
+    size = B.size;
+    kinds = B.kinds;
+    hydrogens = λ a h. ap (λ (l : List ℕ). get_or l a 0) eh ∙ empty_row a (omega (arith, small));
+    degrees = λ a h. ap (λ (R : Rows). get_or R.degrees a 0) er ∙ empty_row a (omega (arith, small));
+    numbers = N;
+    long = ap length eu ∙ length-replicate {A = Bool} 999 false;
+    unused = λ p h. ap (λ (l : List Bool). get_or l p false) eu ∙ get_or-replicate {A = Bool} 999 p false false h;
   }
-    where
-      small : f.table.n ≤ 64
-      small = omega (arith, A.heavies.size, few, heavies_all)
 
-      bare : Table
-      bare = record { n = f.table.n; kinds = f.table.kinds; hydrogens = replicate 64 0; rows = no_rows }
-
-      tidy-made : TidyTable f.table
-      tidy-made = subst TidyTable (λ i. record { n = f.table.n; kinds = f.table.kinds; hydrogens = sym A.hydrogens i; rows = sym A.rows i })
-          (unbonded_tidy f.table.n f.table.kinds (replicate 64 0) small A.heavies.long (length-replicate {A = ℕ} 64 0))
+  pub atoms_done : (f : Folding) → heavy_in ks ≤ 64 → AtomsTo (length ks) f → Bares ks f
+  atoms_done f few A =
+      heavies_bare f (omega (arith, A.heavies.size, few, heavies_all)) A.heavies A.hydrogens A.rows A.used A.numbers

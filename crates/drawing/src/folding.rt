@@ -51,11 +51,8 @@ impl Folding {
     // An H is no atom of a table.
     fn put_kind(&mut self, kind: Kind)
         requires { (kind ≡ 0 → ⊥) → self.old.table.n < 64 }
-        ensures put { KindPut kind self.old self.new }
-        ensures known { kind ≤ 24 }
+        ensures { KindPut kind self.old self.new }
     {
-        // Its number, of which only the bound is used: no kind is 25, which stands for none.
-        let _number = kind.number();
         if kind != Kind::H {
             self.table.kinds[self.table.n] = kind;
             self.table.n += 1;
@@ -69,7 +66,7 @@ impl Folding {
     {
         for p in 0..drawing.counts.atoms {
             self.numbers[p] = self.table.n as u8;
-            let kind = drawing.kinds[p].ok_or(Refusal::UnknownKind)?;
+            let kind = Kind::known(drawing.kinds[p]).ok_or(Refusal::UnknownKind)?;
             self.put_kind(kind);
         }
         Ok(())

@@ -29,7 +29,7 @@ pub struct Bond {
     pub code: u16,
 }
 
-// The first so many atoms by their kinds, none where a symbol is unknown, and the first so many bonds.
+// The first so many atoms by their kinds, none where a symbol is unknown, as is one whose number no kind has, and the first so many bonds.
 // Memory is fixed, so the arrays have room for the longest counts line, and the counts stand beside them.
 // That they fit is a clause (Fits) and no ghost field: the sections of a file are lent the counts and each array alone, and of an array
 // of kinds behind a reference no proof was found that knows its length.

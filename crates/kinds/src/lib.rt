@@ -1,24 +1,23 @@
 // The 24 kinds of document 01 in constant arrays: kind, symbol and atomic number looked up from each other.
 #![tactic(auto)]
 
-ghost use Rattle.std.specs.Prelude.{◌≡◌, [], ◌∷◌, ℕ, ◌≤◌, get_or};
+ghost use Rattle.std.specs.Prelude.{◌≡◌, [], ◌∷◌, ℕ, ◌≤◌, get_or, IfSome};
 ghost use Rattle.molecule.specs.Kinds.{symbol_of, number_of, kind_of_symbol, kind_of_number};
-ghost use Rattle.kinds.specs.Known.{kind_in, letter_of};
+ghost use Rattle.kinds.specs.Known.{kind_in, known_in, letter_of};
 
 use std::marker::Model;
 
-/// One of the 24 kinds by its number from 1, or H, which occurs only in text and in a molfile and is 0.
+/// A kind by its number: from 1 on one of the 24, and 0 is H, which occurs only in text and in a molfile. A number above
+/// 24 is no kind's; who needs one of the 25 says so.
 #[derive(Clone, Copy, PartialEq, Eq, PartialOrd, Ord, Drop)]
 pub struct Kind {
-    number: u8,
+    pub number: u8,
 }
 
 impl Model for Kind {
     ghost Value = { ℕ };
 
     ghost view = { λ k. k.number };
-
-    ghost invariant = { λ k. k.number ≤ 24 };
 
     ghost inverse = { λ n. record { number = n } };
 }
@@ -64,7 +63,8 @@ impl Kind {
     // The kind that an entry of these arrays names.
     fn of_entry(number: u8) -> Option<Kind>
         requires { number ≤ 25 }
-        ensures { kind_in result ≡ number }
+        ensures is { kind_in result ≡ number }
+        ensures low { IfSome result (λ k. k ≤ 24) }
     {
         if number == NONE {
             return None;
@@ -73,7 +73,8 @@ impl Kind {
     }
 
     pub fn of_number(number: u8) -> Option<Kind>
-        ensures { kind_in result ≡ kind_of_number number }
+        ensures is { kind_in result ≡ kind_of_number number }
+        ensures low { IfSome result (λ k. k ≤ 24) }
     {
         if 83 < number {
             return None;
@@ -84,7 +85,8 @@ impl Kind {
 
     // The kind whose symbol is this letter alone.
     pub fn of_capital(letter: u8) -> Option<Kind>
-        ensures { kind_in result ≡ kind_of_symbol (letter ∷ []) }
+        ensures is { kind_in result ≡ kind_of_symbol (letter ∷ []) }
+        ensures low { IfSome result (λ k. k ≤ 24) }
     {
         if letter < b'A' || b'Z' < letter {
             return None;
@@ -95,7 +97,8 @@ impl Kind {
 
     // The kind whose symbol is these two letters.
     pub fn of_letters(capital: u8, small: u8) -> Option<Kind>
-        ensures { kind_in result ≡ kind_of_symbol (capital ∷ small ∷ []) }
+        ensures is { kind_in result ≡ kind_of_symbol (capital ∷ small ∷ []) }
+        ensures low { IfSome result (λ k. k ≤ 24) }
     {
         // 0 stands in the array where there is no second letter.
         if small == 0 {
@@ -109,15 +112,23 @@ impl Kind {
         None
     }
 
+    // What was looked up, none where its number is no kind's.
+    pub fn known(found: Option<Kind>) -> Option<Kind>
+        ensures { result ≡ known_in found }
+    {
+        let kind = found?;
+        if kind.number < NONE { Some(kind) } else { None }
+    }
+
     /// Its number among the kinds, by which keys compare it.
     pub fn number(self) -> u8
-        ensures is { result ≡ self }
-        ensures low { self ≤ 24 }
+        ensures { result ≡ self }
     {
         self.number
     }
 
     pub fn atomic_number(self) -> u8
+        requires { self ≤ 24 }
         ensures { result ≡ number_of self }
     {
         NUMBERS[self.number as usize]
@@ -125,6 +136,7 @@ impl Kind {
 
     // The symbol's first letter.
     pub fn capital(self) -> u8
+        requires { self ≤ 24 }
         ensures { result ≡ get_or (symbol_of self) 0 0 }
     {
         CAPITALS[self.number as usize]
@@ -132,6 +144,7 @@ impl Kind {
 
     // The symbol's second letter, where it has two.
     pub fn small(self) -> Option<u8>
+        requires { self ≤ 24 }
         ensures { result ≡ letter_of (get_or (symbol_of self) 1 0) }
     {
         let letter = SMALLS[self.number as usize];

@@ -6,14 +6,15 @@ use crate::{NEWLINE, field};
 use std::io;
 use std::io::Read;
 
-// A reader, what was read of it, and which part of that was not handed out yet.
+// A reader, what was read of it, and which part of that was not handed out yet. A caller may begin with bytes that it has
+// read itself, and go on with those that are left.
 #[derive(Drop)]
 pub struct Lines<'r, R> {
-    reader: &'r mut R,
-    buffer: &'r mut [u8],
-    at: usize,
-    end: usize,
-    ghost inside: { (at ≤ end) × (end ≤ length buffer.now) },
+    pub reader: &'r mut R,
+    pub buffer: &'r mut [u8],
+    pub at: usize,
+    pub end: usize,
+    pub ghost inside: { (at ≤ end) × (end ≤ length buffer.now) },
 }
 
 // A line: how many of its bytes there are, and whether a newline ended it. A count and no slice, since a record's newline
@@ -43,7 +44,8 @@ fn append(line: &mut [u8], held: usize, piece: &[u8]) -> usize
 
 impl<'r, R: Read> Lines<'r, R> {
     pub fn new(reader: &'r mut R, buffer: &'r mut [u8]) -> Lines<'r, R>
-        ensures { (result.at ≡ 0) × (result.end ≡ 0) }
+        ensures nothing { (result.at ≡ 0) × (result.end ≡ 0) }
+        ensures lent { (result.buffer.now ≡ buffer.entry.now) × (result.buffer.ghost_name ≡ buffer.entry.ghost_name) }
     {
         Lines {
             reader,
@@ -55,7 +57,8 @@ impl<'r, R: Read> Lines<'r, R> {
 
     // The next piece of the input where all is handed out: nothing where the input has ended.
     fn fill(&mut self) -> io::Result<()>
-        ensures { length self.new.buffer.now ≡ length self.old.buffer.now }
+        ensures kept { length self.new.buffer.now ≡ length self.old.buffer.now }
+        ensures same { self.new.buffer.ghost_name ≡ self.old.buffer.ghost_name }
     {
         if self.at == self.end {
             self.end = self.reader.read(self.buffer)?;
@@ -70,6 +73,7 @@ impl<'r, R: Read> Lines<'r, R> {
         ensures ok { IfOk result (λ o. IfSome o (λ l. l.length ≤ length line.new)) }
         ensures err { OnErr result (length line.new ≡ length line.old) }
         ensures kept { length self.new.buffer.now ≡ length self.old.buffer.now }
+        ensures same { self.new.buffer.ghost_name ≡ self.old.buffer.ghost_name }
     {
         let mut held = 0;
         for _ in 0..MOST_TURNS {

@@ -6,7 +6,7 @@ use mathlib.Core.Bool.{Bool, true, false, cond, ◌&&◌}
 use native.Mathlib.Omega.{arith}
 use native.Mathlib.Numerals.{add-one}
 use lib.ListN.{length, get_or, take, drop, drop_of_length-le, length-drop}
-use lib.Seq.{drop-cons, take_all}
+use lib.Seq.{drop-cons, take_all, get_or-take, get_or-drop}
 use lib.Dec.{eqb, leb}
 use borrow.Author.Tests.{ne_eqb, eq-eqb, leb-true}
 use Rattle.std.specs.List.{list_all}
@@ -135,3 +135,14 @@ module _ (k n : ℕ) (l : List ℕ) where
 pub columns-are : (k n : ℕ) (l : List ℕ) (xs : List ℕ) → length xs ≡ n → ((i : ℕ) → i < n → get_or xs i 0 ≡ get_or l (k + i) 32) → xs ≡ columns k n l
 columns-are k n l xs e f =
     list-eq xs (columns k n l) (e ∙ sym (columns-long k n l)) (λ i h. f i (omega arith) ∙ sym (columns-at k n l i (omega arith)))
+
+-- the columns of a slice of a line are columns of the line
+module _ (j m : ℕ) (l : List ℕ) where
+  pub slice-column : (i : ℕ) → i < m → get_or (take m (drop j l)) i 32 ≡ get_or l (j + i) 32
+  slice-column i h = get_or-take m (drop j l) i 32 h ∙ get_or-drop j l i 32
+
+  pub slice-columns : (k n : ℕ) → k + n ≤ m → columns k n (take m (drop j l)) ≡ columns (j + k) n l
+  slice-columns k n h =
+      let s = take m (drop j l) in
+      columns-are (j + k) n l (columns k n s) (columns-long k n s)
+      (λ i g. columns-at k n s i g ∙ slice-column (k + i) (omega arith) ∙ ap (λ (x : ℕ). get_or l x 32) (omega arith))

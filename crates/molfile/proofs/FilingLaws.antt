@@ -21,7 +21,7 @@ use Rattle.drawing.specs.View.{bond_in, drawing_in, Fits}
 use Rattle.drawing.proofs.Taken.{mapped_taken}
 use Rattle.molfile.specs.Cutting.{lines_at}
 use Rattle.molfile.specs.Taking.{any_line, Counted, HasCounts, HasKinds, HasBonds}
-use Rattle.molfile.specs.Passing.{Passes, passed, Ends}
+use Rattle.molfile.specs.Passing.{Passes, passed, Ends, verdict_of}
 use Rattle.molfile.specs.Filing.{IsFiled}
 
 -- the forms of so many atom and bond lines, and what follows them
@@ -116,10 +116,19 @@ module _ (s : List ℕ) where
               made : List rules.Line → List rules.Line → Drawing
               made p q = record { kinds = map (λ l. forms.kind_in l.bytes) (take c.atoms p); bonds = map (λ l. forms.bond_in l.bytes) (take c.bonds q) }
 
+          -- the verdict, and the drawing, each by itself
+          pub ended : (r : Result (Unit {0}) Refused) → Ends s b c.atoms r → verdict s ≡ verdict_of r
+          ended r E = after-bonds ∙ E.judged
+
+          pub drawn-is : (kinds : List (Option ℕ)) (bonds : List Bond) → take c.atoms (map kind_in kinds) ≡ map (λ l. forms.kind_in l.bytes) (take c.atoms (lines_at s n))
+              → map bond_in (take c.bonds bonds) ≡ map (λ l. forms.bond_in l.bytes) (take c.bonds (lines_at s a))
+              → drawing_in (record { counts = c; kinds = kinds; bonds = bonds }) ≡ drawing_of s
+          drawn-is kinds bonds K L = (λ i. record { kinds = K i; bonds = L i }) ∙ sym drawn-of
+
           pub filed_ended : (kinds : List (Option ℕ)) (bonds : List Bond) → HasKinds kinds (passed s n c.atoms) → HasBonds bonds (passed s a c.bonds)
               → (r : Result (Unit {0}) Refused) → Ends s b c.atoms r → IsFiled s (record { counts = c; kinds = kinds; bonds = bonds }) r
           filed_ended kinds bonds K L r E =
-              record { judged = after-bonds ∙ E.judged; refusal = E.refusal; fits = where_ok r fit; drawing = where_ok r same }
+              record { judged = ended r E; refusal = E.refusal; fits = where_ok r fit; drawing = where_ok r same }
             where
               where_ok : {P : Type 0} → (q : Result (Unit {0}) Refused) → P → IfOk q (λ _. P)
               where_ok (Ok x) p = p
@@ -145,4 +154,4 @@ module _ (s : List ℕ) where
                   ∙ map_twice forms.bond_in (λ (l : rules.Line). l.bytes) (take c.bonds (lines_at s a))
 
               same : drawing_in (record { counts = c; kinds = kinds; bonds = bonds }) ≡ drawing_of s
-              same = (λ i. record { kinds = same-kinds i; bonds = same-bonds i }) ∙ sym drawn-of
+              same = drawn-is kinds bonds same-kinds same-bonds

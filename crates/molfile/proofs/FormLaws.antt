@@ -88,6 +88,14 @@ module _ (l : List ℕ) where
   unfolding is_bond_line
   bond_short h = simp (lt-leb _ _ h)
 
+  -- what is no bond line where it is long enough is none
+  pub bond_none : (9 ≤ length l → is_bond_line l ≡ false) → is_bond_line l ≡ false
+  bond_none f = go (dec_lt (length l) 9)
+    where
+      go : Dec (length l < 9) → is_bond_line l ≡ false
+      go (yes h) = bond_short h
+      go (no n) = f (omega arith)
+
   module _ (h : 9 ≤ length l) where
     pub bond_first : number_at 0 l ≡ 1000 → is_bond_line l ≡ false
     unfolding is_bond_line
@@ -126,7 +134,7 @@ short-symbols : every (each 25 (λ k. leb (length (symbol_of k)) 2)) ≡ true
 unfolding every each from kinds symbol_of
 short-symbols = refl
 
-more_letters : (s : List ℕ) → 2 < length s → 25 ≡ kind_of_symbol s
+pub more_letters : (s : List ℕ) → 2 < length s → 25 ≡ kind_of_symbol s
 unfolding kind_of_symbol kinds
 more_letters s h = omega (arith, none, find-le (λ (e : Kind). compare_is_eq (lex compare e.symbol s)) (record { symbol = []; number = 0 }) kinds)
   where

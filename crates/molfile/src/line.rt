@@ -1,5 +1,5 @@
 // The lines of a file.
-ghost use Rattle.std.specs.Prelude.{◌≡◌, ◌+◌, ◌≤◌, ◌<◌, length, drop};
+ghost use Rattle.std.specs.Prelude.{◌≡◌, ◌+◌, ◌≤◌, ◌<◌, eqb, length, drop, position};
 ghost use Rattle.molfile.specs.Cutting.{line_feed, IsLine};
 
 // The bytes of a line without its end, and the offset of the next line.
@@ -13,17 +13,22 @@ const LF: u8 = b'\n';
 
 const CR: u8 = b'\r';
 
+// Where the first LF stands.
+fn feed_in(bytes: &[u8]) -> Option<usize>
+    ensures { result ≡ position (λ b. eqb b 10) bytes.now }
+{
+    bytes.iter().position(|b| *b == LF)
+}
+
 // The offset of the first LF from an offset on, or the file's length.
 fn line_feed(file: &[u8], at: usize) -> usize
     requires { at ≤ length file.now }
     ensures { result ≡ at + line_feed (drop at file.now) }
 {
-    for i in at..file.len() {
-        if file[i] == LF {
-            return i;
-        }
+    match feed_in(&file[at..]) {
+        Some(p) => at + p,
+        None => file.len(),
     }
-    file.len()
 }
 
 // The line that begins at an offset.

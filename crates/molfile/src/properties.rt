@@ -1,5 +1,5 @@
 // The lines behind the bonds.
-ghost use Rattle.std.specs.Prelude.{◌≡◌, ◌&&◌, ◌≤◌, ◌<◌, ltb, leb};
+ghost use Rattle.std.specs.Prelude.{◌≡◌, ◌&&◌, ◌+◌, ◌*◌, ◌≤◌, ◌<◌, ltb, leb, length};
 ghost use Rattle.lists.specs.Upto.{each};
 ghost use Rattle.lists.specs.Tests.{every};
 ghost use Rattle.ctfile.specs.Forms.{number_at, is_entry, lists_entries, is_property_line, is_end_line};
@@ -24,18 +24,20 @@ fn names_atom(line: &[u8], k: usize, atoms: usize) -> bool
 }
 
 fn is_entry(line: &[u8], atoms: usize, e: usize) -> bool
-    requires { (e < 8) × (atoms ≤ 999) }
+    requires { (e < 8) × (17 + 8 * e ≤ length line.now) × (atoms ≤ 999) }
     ensures { result ≡ is_entry atoms line.now e }
 {
+    // A slice of its own, so that its columns are there by its length.
     let k = 9 + 8 * e;
-    column(line, k) == BLANK
-        && column(line, k + 4) == BLANK
-        && names_atom(line, k + 1, atoms)
-        && size_at::<3>(line, k + 5) == Some(0)
+    let entry = &line[k..k + 8];
+    column(entry, 0) == BLANK
+        && column(entry, 4) == BLANK
+        && names_atom(entry, 1, atoms)
+        && size_at::<3>(entry, 5) == Some(0)
 }
 
 fn are_entries(line: &[u8], atoms: usize, entries: usize) -> bool
-    requires { (entries ≤ 8) × (atoms ≤ 999) }
+    requires { (entries ≤ 8) × (9 + 8 * entries ≤ length line.now) × (atoms ≤ 999) }
     ensures { result ≡ every (each entries (is_entry atoms line.now)) }
 {
     for e in 0..entries {

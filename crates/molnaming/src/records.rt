@@ -58,6 +58,7 @@ pub fn next_record<R: Read>(lines: &mut Lines<R>, file: &mut [u8]) -> io::Result
     ensures ok { IfOk result (λ o. IfSome o (λ n. n ≤ 65537)) }
     ensures err { OnErr result (length file.new ≡ length file.old) }
     ensures kept { length lines.new.buffer.now ≡ length lines.old.buffer.now }
+    ensures same { lines.new.buffer.ghost_name ≡ lines.old.buffer.ghost_name }
 {
     let mut held = 0;
     for _ in 0..MOST_TURNS {

@@ -1,2 +1,3 @@
-mod Ready
-mod Runs
+pub mod Judgements
+pub mod Ready
+pub mod Runs

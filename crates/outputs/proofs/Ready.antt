@@ -1,7 +1,7 @@
 -- A table with its numbering, put in rank order: what is then written is what the answers ask for, since each step's view is the last one's.
 use mathlib.Core.Path.{◌≡◌, sym, subst}
-use Prim.Native.Nat.{ℕ, ◌≤◌}
-use Rattle.molecule.specs.Molecule.{Molecule}
+use Prim.Native.Nat.{ℕ, ◌<◌, ◌≤◌}
+use Rattle.molecule.specs.Molecule.{Molecule, kind}
 use Rattle.molecule.specs.Renumbering.{Renumbered}
 use Rattle.molecule.specs.Written.{card_bytes}
 use Rattle.molecule.proofs.Renumberings.{renumbered_refl}
@@ -51,6 +51,9 @@ module _ (t : Table) (n : Numbering) (R : Ready t n) where
 
     sound-ranked : Sound (view_of u)
     sound-ranked = sound-along canonical-view (sound-along (canonical-renumbered rule1 Seen).1 R.listed.sound)
+
+    pub known : (a : ℕ) → a < (view_of u).size → kind (view_of u) a ≤ 24
+    known = sound-ranked.known
 
     pub nameable : Nameable u
     nameable = sound-nameable u T sound-ranked (name-length (view_of u) sound-ranked)

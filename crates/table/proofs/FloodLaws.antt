@@ -1,16 +1,20 @@
 -- The arrays of the flood: an atom that is new has room in the queue, and a row is seen slot by slot.
 use mathlib.Core.Bool.{Bool, true, false, cond}
+use mathlib.Core.List.{List}
 use mathlib.Core.Path.{◌≡◌, refl, ◌∙◌, ap}
-use Prim.Native.Nat.{ℕ, ◌+◌, ◌<◌}
+use Prim.Native.Nat.{ℕ, suc, ◌+◌, ◌*◌, ◌<◌, ◌≤◌}
 use native.Mathlib.Decide.{ℕ_discrete}
+use native.Mathlib.Numerals.{add-one}
 use native.Mathlib.Omega.{arith}
 use lib.Dec.{eqb}
-use lib.ListN.{length, set, length-set}
-use lib.Seq.{get_or-set_same, get_or-set_other}
+use lib.ListN.{length, get_or, set, drop, length-set}
+use lib.Seq.{drop-cons, get_or-set_same, get_or-set_other}
 use borrow.Author.Tests.{eq-eqb, ne_eqb}
 use Rattle.lists.proofs.Counts.{count-fewer, count-split, count-one}
-use Rattle.table.specs.Flood.{is_seen, see, Counted}
+use Rattle.table.specs.Arrays.{row_in}
+use Rattle.table.specs.Flood.{is_seen, see, see_all, Counted}
 use Rattle.table.specs.declared.flood.Flood.{Flood}
+use Rattle.table.proofs.RowLaws.{row_at, row-long}
 
 -- an atom that was not seen has room in the queue
 pub counted-room : (f : Flood) (b : ℕ) → Counted f → b < 64 → is_seen f b ≡ false → f.end < 64
@@ -53,3 +57,11 @@ added-counted f b C h e = record {
 
 pub see-counted : (f : Flood) (b : ℕ) → Counted f → b < 64 → Counted (see f b)
 see-counted f b C h = see-cases Counted f b (λ e. C) (added-counted f b C h)
+
+-- the next slot of a row seen
+pub see_all-next : (degrees near : List ℕ) (a p : ℕ) (f : Flood) → 6 * a + get_or degrees a 0 ≤ length near → p < get_or degrees a 0
+    → see_all f (drop p (row_in degrees near a)) ≡ see_all (see f (get_or near (6 * a + p) 0)) (drop (p + 1) (row_in degrees near a))
+unfolding see_all
+see_all-next degrees near a p f h l =
+    ap (see_all f) (drop-cons (row_in degrees near a) p 0 (omega (arith, row-long degrees near a h)))
+    ∙ ap (λ (x : ℕ). see_all (see f x) (drop (suc p) (row_in degrees near a))) (row_at degrees near a p l) ∙ rw add-one

@@ -3,11 +3,13 @@ use Prim.Native.Nat.{ℕ, ◌≤◌, ◌<◌}
 use mathlib.Core.Path.{◌≡◌, refl, ap, ◌∙◌}
 use mathlib.Core.List.{List, ◌++◌}
 use mathlib.Core.Bool.{Bool, true, false, cond}
-use lib.ListN.{length, drop}
+use lib.ListN.{length, drop, get_or}
 use lib.Dec.{ltb}
 use borrow.Author.Tests.{eq-eqb, ne_eqb, lt-ltb, le-ltb}
+use native.Mathlib.Omega.{arith}
+use Rattle.lists.proofs.All.{all_get_d}
 use Rattle.std.specs.Prelude.{Result, Ok, Err}
-use Rattle.molecule.specs.Molecule.{Molecule}
+use Rattle.molecule.specs.Molecule.{Molecule, kind}
 use Rattle.molecule.specs.Renumbering.{Renumbered}
 use Rattle.molecule.specs.Written.{card_bytes}
 use Rattle.molecule.proofs.Alike.{card_bytes-alike}
@@ -18,7 +20,8 @@ use Rattle.refusal.specs.Numbers.{number_of}
 use Rattle.sling.specs.Scanned.{tokens}
 use Rattle.sling.specs.Reading as rules
 use Rattle.sling.specs.Faults.{Outcome, stopped, finished, run}
-use Rattle.sling.specs.Folded.{folded, lone_h, ended, read_text}
+use Rattle.sling.specs.Folded.{heavy_places, folded, lone_h, ended, read_text}
+use Rattle.sling.proofs.Tidy.{Reader}
 use Rattle.rules.specs.Answers.{in_room, at_exit, read_into, card_of}
 use Rattle.lent.specs.Written.{Written}
 use Rattle.text.specs.Answering.{Answers, Answered, Writes}
@@ -102,3 +105,9 @@ module _ (S : rules.State) (size : ℕ) (lent : List ℕ) where
     pub written-mapped : (w : Result ℕ Refusal) → Written (card_bytes M) lent after w → (r : Result ℕ Refused) → Mapped w r → Writes S size lent after r
     written-mapped (Ok n) W r e = rw e (written-ok n W)
     written-mapped (Err q) W r e = rw e (written-err q W)
+
+-- the kinds of the molecule are kinds of the table
+pub folded-known : (S : rules.State) → Reader S → (M : Molecule) → Renumbered (λ a. a) (folded S) M → (a : ℕ) → a < M.size → kind M a ≤ 24
+unfolding folded
+folded-known S r M E a h =
+    rw (E.label a (omega (arith, E.size))) (all_get_d (λ k. k ≤ 24) S.kinds 0 r.tidy.known (omega arith) (get_or (heavy_places S) a 0))

@@ -9,7 +9,7 @@ use mir.Val.{bool_byte}
 use Rattle.std.specs.Prelude.{Result, Err}
 use Rattle.std.specs.List.{list_any}
 use Rattle.lists.proofs.Upto.{each_take, map_each}
-use lib.Dec.{eqb, ltb}
+use lib.Dec.{eqb, ltb, leb}
 use borrow.Author.Tests.{ne_eqb, le-leb, lt-leb, leb-true, leb-false}
 use Rattle.lists.specs.Tests.{some}
 use Rattle.molecule.specs.Bonds.{joins}
@@ -112,14 +112,14 @@ module _ (st : State) (H : Held st) (some-atom : 0 < st.n) where
   pub few-at : (p : ℕ) → p < 192 → (c : TextAtom) → c ≡ atom_at st p → Few c
   few-at p l c e = rw e (omega (arith, ready.few-h p l), ready.few p l)
 
+  pub atom-judged : (m k u : ℕ) → atom_fault m (atom_at st st.cursor.0) (fresh k u) (counts_of st) ≡ item_fault (view_of st) (atom m k)
+  atom-judged m k u =
+      let t = H.tallied in
+      atom-fault (view_of st) (reached-reader (view_of st) H.reached) there_is m k (atom_at st st.cursor.0) (fresh k u) (counts_of st)
+      (sym (view-kind st st.cursor.0 ready.from)) (t.hydrogens_on st.cursor.0 low) (t.bonds_on st.cursor.0 low) refl refl refl t.heavy_atoms t.hydrogen_atoms t.heavy_bonds
+
   -- a new atom of a kind j, the number k of its symbol
   module _ (m k j u : ℕ) (ek : k ≡ j) (known : NoFault (cond (ltb 24 k) 3 0)) (c d : TextAtom) (ec : c ≡ atom_at st st.cursor.0) (ed : d ≡ fresh j u) where
-    atom-judged : atom_fault m (atom_at st st.cursor.0) (fresh k u) (counts_of st) ≡ item_fault (view_of st) (atom m k)
-    atom-judged =
-        let t = H.tallied in
-        atom-fault (view_of st) (reached-reader (view_of st) H.reached) there_is m k (atom_at st st.cursor.0) (fresh k u) (counts_of st)
-        (sym (view-kind st st.cursor.0 ready.from)) (t.hydrogens_on st.cursor.0 low) (t.bonds_on st.cursor.0 low) refl refl refl t.heavy_atoms t.hydrogen_atoms t.heavy_bonds
-
     same_new : d ≡ fresh k u
     same_new = ed ∙ ap (λ (x : ℕ). fresh x u) (sym ek)
 
@@ -129,7 +129,7 @@ module _ (st : State) (H : Held st) (some-atom : 0 < st.n) where
     pub atom-7 : (r : Result Step Refusal) (q : Refusal) → r ≡ Err q → number_of q ≡ cond (wrong_h c d m) 7 0 → Judges (view_of st) (atom m k) r
     atom-7 r q e n =
         let w = fault_is q _ 7 n in
-        stops _ _ r q e (w.1 ∙ sym (rw (clear_is _ 2 known, sym same_h ∙ w.0)) ∙ atom-judged)
+        stops _ _ r q e (w.1 ∙ sym (rw (clear_is _ 2 known, sym same_h ∙ w.0)) ∙ atom-judged m k u)
 
     module _ (h : NoFault (cond (wrong_h c d m) 7 0)) (a b : ℕ) (ea : a ≡ st.atoms + bit (not (h_bit j))) (eb : b ≡ st.total + bit (h_bit j)) where
       plain : wrong_h (atom_at st st.cursor.0) (fresh k u) m ≡ false
@@ -141,22 +141,19 @@ module _ (st : State) (H : Held st) (some-atom : 0 < st.n) where
       pub atom-4 : (r : Result Step Refusal) (q : Refusal) → r ≡ Err q → number_of q ≡ cond (over_with a b st.bonds c d) 4 0 → Judges (view_of st) (atom m k) r
       atom-4 r q e n =
           let o = fault_is q _ 4 n in
-          stops _ _ r q e (o.1 ∙ sym (rw (clear_is _ 2 known, plain, sym same_limits ∙ o.0)) ∙ atom-judged)
+          stops _ _ r q e (o.1 ∙ sym (rw (clear_is _ 2 known, plain, sym same_limits ∙ o.0)) ∙ atom-judged m k u)
 
       pub atom-0 : NoFault (cond (over_with a b st.bonds c d) 4 0) → 0 ≡ item_fault (view_of st) (atom m k)
-      atom-0 n = sym (rw (clear_is _ 2 known, plain, sym same_limits ∙ clear_is _ 3 n)) ∙ atom-judged
+      atom-0 n = sym (rw (clear_is _ 2 known, plain, sym same_limits ∙ clear_is _ 3 n)) ∙ atom-judged m k u
 
   -- a symbol that is none
   pub atom-3 : (m k : ℕ) (r : Result Step Refusal) (q : Refusal) → r ≡ Err q → number_of q ≡ cond (ltb 24 k) 3 0 → Judges (view_of st) (atom m k) r
   atom-3 m k r q e n =
       let w = fault_is q _ 3 n in
-      let t = H.tallied in
-      stops _ _ r q e (w.1 ∙ sym (rw w.0)
-      ∙ atom-fault (view_of st) (reached-reader (view_of st) H.reached) there_is m k (atom_at st st.cursor.0) (fresh k 0) (counts_of st)
-      (sym (view-kind st st.cursor.0 ready.from)) (t.hydrogens_on st.cursor.0 low) (t.bonds_on st.cursor.0 low) refl refl refl t.heavy_atoms t.hydrogen_atoms t.heavy_bonds)
+      stops _ _ r q e (w.1 ∙ sym (rw w.0) ∙ atom-judged m k 0)
 
   module _ (t : Target) (p : ℕ) (named : p ≡ place_of (view_of st) t) where
-    reference-judged : reference_fault st.n p ≡ item_fault (view_of st) (reference t)
+    pub reference-judged : reference_fault st.n p ≡ item_fault (view_of st) (reference t)
     reference-judged =
         ap (λ (n : ℕ). reference_fault n p) (sym (view_places st))
         ∙ reference-fault (view_of st) (reached-reader (view_of st) H.reached) there_is (reached-room (view_of st) H.reached) p
@@ -181,6 +178,23 @@ module _ (st : State) (H : Held st) (some-atom : 0 < st.n) where
           let l : length (view_of st).kinds ≤ p = omega (arith, view_places st, leb-true _ _ w.0) in
           stops _ _ r q e (w.1 ∙ sym (rw (some-places, le-leb _ _ l)) ∙ to-place)
 
+      pub ring-judged : ring_fault m p (atom_at st st.cursor.0) (atom_at st p) (counts_of st) (paired_in st p) ≡ item_fault (view_of st) (ring m t)
+      unfolding item_fault
+      ring-judged = pick (leb st.n p) refl ∙ to-place
+        where
+          pick : (b : Bool) → leb st.n p ≡ b → ring_fault m p (atom_at st st.cursor.0) (atom_at st p) (counts_of st) (paired_in st p) ≡ item_fault (view_of st) (ring m (at p))
+          pick true q =
+              let l : length (view_of st).kinds ≤ p = omega (arith, view_places st, leb-true st.n p q) in
+              rw q (sym (rw (some-places, le-leb _ _ l)))
+          pick false q =
+              let t = H.tallied in
+              let there : p < st.n = leb-false st.n p q in
+              let fit : p < 192 = omega (arith, ready.places, there) in
+              ring-fault (view_of st) (reached-reader (view_of st) H.reached) there_is m p (atom_at st st.cursor.0) (atom_at st p) (counts_of st) (paired_in st p)
+              (sym (view_places st)) refl (sym (view-kind st st.cursor.0 ready.from)) (sym (view-kind st p there))
+              (t.hydrogens_on st.cursor.0 low) (t.hydrogens_on p fit) (t.bonds_on st.cursor.0 low) (t.bonds_on p fit)
+              t.heavy_atoms t.hydrogen_atoms t.heavy_bonds (paired-is st (omega (arith, t.drawn, t.links_long)) p)
+
       module _ (found : 0 ≡ reference_fault st.n p) where
         pub there : p < st.n
         there = leb-false _ _ (clear_is _ 4 found)
@@ -189,28 +203,20 @@ module _ (st : State) (H : Held st) (some-atom : 0 < st.n) where
           abbrev pair : Bool
           pair = paired_in st p
 
-          ring-judged : ring_fault m p c d (counts_of st) pair ≡ item_fault (view_of st) (ring m t)
-          ring-judged =
-              let t = H.tallied in
-              let fit : p < 192 = omega (arith, ready.places, there) in
-              ap₂ (λ (x y : TextAtom). ring_fault m p x y (counts_of st) pair) ec ed
-              ∙ ring-fault (view_of st) (reached-reader (view_of st) H.reached) there_is m p (atom_at st st.cursor.0) (atom_at st p) (counts_of st) pair
-              (sym (view_places st)) refl (sym (view-kind st st.cursor.0 ready.from)) (sym (view-kind st p there))
-              (t.hydrogens_on st.cursor.0 low) (t.hydrogens_on p fit) (t.bonds_on st.cursor.0 low) (t.bonds_on p fit)
-              t.heavy_atoms t.hydrogen_atoms t.heavy_bonds (paired-is st (omega (arith, t.drawn, t.links_long)) p)
-              ∙ to-place
+          ring-given : ring_fault m p c d (counts_of st) pair ≡ item_fault (view_of st) (ring m t)
+          ring-given = ap₂ (λ (x y : TextAtom). ring_fault m p x y (counts_of st) pair) ec ed ∙ ring-judged
 
           pub ring-7 : (r : Result Step Refusal) (q : Refusal) → r ≡ Err q → number_of q ≡ cond (wrong_h c d m) 7 0 → Judges (view_of st) (ring m t) r
-          ring-7 r q e n = let w = fault_is q _ 7 n in stops _ _ r q e (w.1 ∙ sym (rw (lt-leb st.n p there, w.0)) ∙ ring-judged)
+          ring-7 r q e n = let w = fault_is q _ 7 n in stops _ _ r q e (w.1 ∙ sym (rw (lt-leb st.n p there, w.0)) ∙ ring-given)
 
           module _ (h : NoFault (cond (wrong_h c d m) 7 0)) where
             pub ring-6 : (r : Result Step Refusal) (q : Refusal) → r ≡ Err q → number_of q ≡ cond (eqb st.cursor.0 p || pair) 6 0 → Judges (view_of st) (ring m t) r
-            ring-6 r q e n = let w = fault_is q _ 6 n in stops _ _ r q e (w.1 ∙ sym (rw (lt-leb st.n p there, clear_is _ 6 h, w.0)) ∙ ring-judged)
+            ring-6 r q e n = let w = fault_is q _ 6 n in stops _ _ r q e (w.1 ∙ sym (rw (lt-leb st.n p there, clear_is _ 6 h, w.0)) ∙ ring-given)
 
             module _ (o : NoFault (cond (eqb st.cursor.0 p || pair) 6 0)) where
               pub ring-4 : (r : Result Step Refusal) (q : Refusal) → r ≡ Err q → number_of q ≡ cond (over_with st.atoms st.total st.bonds c d) 4 0 → Judges (view_of st) (ring m t) r
               ring-4 r q e n =
-                  let w = fault_is q _ 4 n in stops _ _ r q e (w.1 ∙ sym (rw (lt-leb st.n p there, clear_is _ 6 h, clear_is _ 5 o, w.0)) ∙ ring-judged)
+                  let w = fault_is q _ 4 n in stops _ _ r q e (w.1 ∙ sym (rw (lt-leb st.n p there, clear_is _ 6 h, clear_is _ 5 o, w.0)) ∙ ring-given)
 
               pub ring-0 : NoFault (cond (over_with st.atoms st.total st.bonds c d) 4 0) → 0 ≡ item_fault (view_of st) (ring m t)
-              ring-0 n = sym (rw (lt-leb st.n p there, clear_is _ 6 h, clear_is _ 5 o, clear_is _ 3 n)) ∙ ring-judged
+              ring-0 n = sym (rw (lt-leb st.n p there, clear_is _ 6 h, clear_is _ 5 o, clear_is _ 3 n)) ∙ ring-given

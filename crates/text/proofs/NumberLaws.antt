@@ -16,11 +16,11 @@ use Rattle.sling.specs.Scanned as scan
 use Rattle.lists.proofs.Booleans.{and_both}
 use Rattle.text.specs.Scanning.{digit_at, number_of}
 
-abbrev IfDigit : List ℕ → ℕ → Option ℕ → Type 0
+abbrev pub IfDigit : List ℕ → ℕ → Option ℕ → Type 0
 IfDigit s at (Some d) = digits (drop at s) ≡ (48 + d) ∷ digits (drop (at + 1) s)
 IfDigit s at None = digits (drop at s) ≡ []
 
-digit-by : (s : List ℕ) (at : ℕ) → IfDigit s at (digit_at s at)
+pub digit-by : (s : List ℕ) (at : ℕ) → IfDigit s at (digit_at s at)
 unfolding digit_at digits
 digit-by s at = pick (ltb at (length s)) refl
   where

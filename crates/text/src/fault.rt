@@ -17,12 +17,7 @@ use table::Table;
 fn known(symbol: Option<Kind>) -> Result<Kind, Refusal>
     ensures { IsKnown symbol result }
 {
-    let Some(kind) = symbol else {
-        return Err(Refusal::UnknownKind);
-    };
-    // Asked for its bound, by which the rules know a kind.
-    let _number = kind.number();
-    Ok(kind)
+    Kind::known(symbol).ok_or(Refusal::UnknownKind)
 }
 
 // Whether a new bond breaks the H rule at an end of a kind, which has so many bonds to an H before.
@@ -159,14 +154,14 @@ impl State {
     }
 
     // The step that an item is, or the refusal that it deserves.
-    pub fn judged(&self, item: Item) -> Result<Step, Refusal>
+    pub fn judged(&self, item: &Item) -> Result<Step, Refusal>
         requires { Held self.now }
-        ensures { Judges (view_of self.now) (item_of item) result }
+        ensures { Judges (view_of self.now) (item_of item.now) result }
     {
         if self.n == 0 {
-            return opening(item);
+            return opening(*item);
         }
-        match item {
+        match *item {
             Item::Atom { code, kind } => self.atom_judged(code, kind),
             Item::Reference(target) => self.reference_judged(target),
             Item::Ring { code, target } => self.ring_judged(code, target),

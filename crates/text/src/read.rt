@@ -19,7 +19,7 @@ pub fn read(text: &[u8]) -> Result<State, Refused>
                 place: at,
             });
         };
-        match state.judged(scanned.item) {
+        match state.judged(&scanned.item) {
             Ok(step) => state.follow(step),
             Err(refusal) => return Err(Refused { refusal, place: at }),
         }

@@ -145,14 +145,15 @@ impl State {
         requires { Climbable self.now }
         ensures { result.0 ≡ climb (view_of self.now) steps self.now.cursor.0 }
     {
-        let mut p = self.cursor.0;
+        // An index, widened once for each step and no more: a step waits for the one before it.
+        let mut p = self.cursor.0 as usize;
         for _step in 0..steps {
             if p == 0 {
                 return Place(self.n as u16);
             }
-            p = self.placed[p as usize].up as u16;
+            p = self.placed[p].up as usize;
         }
-        Place(p)
+        Place(p as u16)
     }
 
     // The place that a target names.

@@ -31,7 +31,7 @@ first-bytes : (k : ℕ) → bytes false (atom 1 k ∷ []) ≡ symbol_bytes k
 unfolding bytes item_bytes
 first-bytes k = append-nil (symbol_bytes k)
 
-abbrev no_places : List (Option ℕ)
+abbrev pub no_places : List (Option ℕ)
 no_places = set (replicate 64 None) 0 (Some 0)
 
 first-place : (k a : ℕ) → a < 64 → get_or no_places a None ≡ held (begun k).ranks (suc a)
@@ -79,6 +79,7 @@ module _ (t : Table) (N : Nameable t) where
         atoms = N.tidy.atoms;
         kinds_long = N.tidy.kinds_long;
         kind_of = λ a h. refl;
+        known = N.known;
         hydrogens_of = λ a h. refl;
         few = N.tidy.few;
         row = λ a h. neighbours-row (arrays_of t) N.tidy a h;
@@ -94,6 +95,9 @@ module _ (t : Table) (N : Nameable t) where
   -- the first atom's kind, whatever would be read past the last
   first-kind : (y : ℕ) → get_or t.kinds 0 y ≡ get_or t.kinds 0 0
   first-kind y = get_or_default t.kinds 0 y 0 (omega (arith, N.tidy.kinds_long))
+
+  pub first-known : (y : ℕ) → get_or t.kinds 0 y ≤ 24
+  first-known y = omega (arith, first-kind y, N.known 0 N.some)
 
   pub first-room : (y : ℕ) → size (begun (get_or t.kinds 0 y)) ≤ 2048
   first-room y =
@@ -120,4 +124,4 @@ module _ (t : Table) (N : Nameable t) where
 -- what a sound molecule's table, in rank order, brings
 pub sound-nameable : (t : Table) → TidyTable t → Sound (view_of t) → length (name_bytes (view_of t)) ≤ 2048 → Nameable t
 unfolding as_molecule
-sound-nameable t T S h = record { tidy = T; some = S.some; room = h }
+sound-nameable t T S h = record { tidy = T; some = S.some; known = S.known; room = h }

@@ -1,5 +1,5 @@
 // The bytes of a name, put one item behind the other.
-ghost use Rattle.std.specs.Prelude.{[], ◌∷◌, ◌++◌, ◌≡◌, ◌+◌, ◌<◌};
+ghost use Rattle.std.specs.Prelude.{[], ◌∷◌, ◌++◌, ◌≡◌, ◌+◌, ◌<◌, ◌≤◌};
 ghost use Rattle.sling.specs.Items.{at, reference};
 ghost use Rattle.sling.specs.Printed.{decimal, mark_bytes, symbol_bytes, item_bytes};
 ghost use Rattle.writing.specs.Room.{Room};
@@ -92,11 +92,9 @@ impl Name {
 
     #[tactic(auto, using(crate::proofs::Symbols::symbol_one, crate::proofs::Symbols::symbol_two))]
     pub fn put_symbol(&mut self, kind: Kind)
-        requires { Room self.old (symbol_bytes kind) }
+        requires { (kind ≤ 24) × Room self.old (symbol_bytes kind) }
         ensures { self.new ≡ self.old ++ symbol_bytes kind }
     {
-        // The number is asked for its clause, that the kind is one of the 25.
-        let _ = kind.number();
         let capital = kind.capital();
         match kind.small() {
             Some(small) => self.put(&[b'(', capital, small, b')']),
@@ -105,7 +103,7 @@ impl Name {
     }
 
     pub fn put_atom(&mut self, code: u8, kind: Kind)
-        requires { Room self.old (mark_bytes code ++ symbol_bytes kind) }
+        requires { (kind ≤ 24) × Room self.old (mark_bytes code ++ symbol_bytes kind) }
         ensures { self.new ≡ self.old ++ (mark_bytes code ++ symbol_bytes kind) }
     {
         self.put_mark(code);

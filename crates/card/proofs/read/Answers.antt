@@ -10,25 +10,25 @@ pub returns-in_err-counts_fault : goal.returns-in_err-counts_fault
 returns-in_err-counts_fault c =
     read-counts c.args.card.now c.in-Some.fields c.in-Some.ensures _ c.in_err-counts_fault.field-0.0 (search rules) c.in_err-counts_fault.ensures
 
+pub returns-in_err-bare : goal.returns-in_err-bare
+returns-in_err-bare c =
+    read-atomic c.args.card.now c.in-Some.fields c.in-Some.ensures c.in_ok-counts_fault.ensures _ c.in_err-bare.field-0.0 (search rules) c.in_err-bare.ensures
+
 pub returns-in_err-table : goal.returns-in_err-table
 returns-in_err-table c =
-    read-atomic c.args.card.now c.in-Some.fields c.in-Some.ensures c.in_ok-counts_fault.ensures _ c.in_err-table.field-0.0 (search rules) c.in_err-table.ensures
-
-pub returns-in_err-read_bonds : goal.returns-in_err-read_bonds
-returns-in_err-read_bonds c =
-    read-bonded c.args.card.now c.in-Some.fields c.in-Some.ensures c.in_ok-counts_fault.ensures c.in_ok-table.table c.in_ok-table.ensures _ _
-    c.in_err-read_bonds.field-0.0 (search rules) c.in_err-read_bonds.ensures
+    read-bonded c.args.card.now c.in-Some.fields c.in-Some.ensures c.in_ok-counts_fault.ensures c.in_ok-bare.bare c.in_ok-bare.ensures _
+    c.in_err-table.field-0.0 (search rules) c.in_err-table.ensures
 
 pub connected-requires : goal.connected-requires
 connected-requires c =
-    read-ready c.args.card.now c.in-Some.fields c.in-Some.ensures c.in_ok-counts_fault.ensures c.in_ok-table.table c.in_ok-table.ensures _ c.in_ok-read_bonds.ensures
+    read-ready c.args.card.now c.in-Some.fields c.in-Some.ensures c.in_ok-counts_fault.ensures c.in_ok-bare.bare c.in_ok-bare.ensures _ c.in_ok-table.ensures
 
 pub returns-then-not-connected : goal.returns-then-not-connected
 returns-then-not-connected c =
-    read-apart c.args.card.now c.in-Some.fields c.in-Some.ensures c.in_ok-counts_fault.ensures c.in_ok-table.table c.in_ok-table.ensures _ c.in_ok-read_bonds.ensures _
+    read-apart c.args.card.now c.in-Some.fields c.in-Some.ensures c.in_ok-counts_fault.ensures c.in_ok-bare.bare c.in_ok-bare.ensures _ c.in_ok-table.ensures _
     c.connected.ensures c.if-not-connected.true
 
 pub returns : goal.returns
 returns c =
-    read_whole c.args.card.now c.in-Some.fields c.in-Some.ensures c.in_ok-counts_fault.ensures c.in_ok-table.table c.in_ok-table.ensures _ c.in_ok-read_bonds.ensures _
+    read_whole c.args.card.now c.in-Some.fields c.in-Some.ensures c.in_ok-counts_fault.ensures c.in_ok-bare.bare c.in_ok-bare.ensures _ c.in_ok-table.ensures _
     c.connected.ensures c.if-not-connected.false

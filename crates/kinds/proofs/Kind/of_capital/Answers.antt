@@ -6,8 +6,8 @@ use Rattle.kinds.proofs.Arrays.{by_capital, capital_at, no_capital, kind_of_symb
 use Rattle.kinds.proofs.Kind.of_capital.Goals.{then-letter-lt65-via-then-letter-lt65, then-letter-lt65-via-else-letter-lt65+then-letter-gt90}
 use Rattle.kinds.proofs.Kind.of_capital.Goals as goal
 
-pub returns-then-letter-lt65 : goal.returns-then-letter-lt65
-returns-then-letter-lt65 c =
+pub returns-then-letter-lt65-clause-is : goal.returns-then-letter-lt65-clause-is
+returns-then-letter-lt65-clause-is c =
     sym
     (no_capital c.args.letter []
     (λ h k.
@@ -17,6 +17,6 @@ pub of_entry-requires : goal.of_entry-requires
 unfolding by_capital
 of_entry-requires c = omega (arith, capital_at c.args.letter (omega arith) (omega arith), kind_of_symbol-low (c.args.letter ∷ []))
 
-pub returns : goal.returns
+pub returns-clause-is : goal.returns-clause-is
 unfolding by_capital
-returns c = c.of_entry.ensures ∙ capital_at c.args.letter (omega arith) (omega arith)
+returns-clause-is c = c.of_entry.ensures.is ∙ capital_at c.args.letter (omega arith) (omega arith)

@@ -1,6 +1,7 @@
 -- The array's entry at a kind is the second letter of its symbol, or 0, by the test computed over all entries.
 use mathlib.Core.Path.{◌≡◌, refl, ap, sym, ◌∙◌}
 use Prim.Native.Nat.{ℕ, zero, suc}
+use native.Mathlib.Omega.{arith}
 use lib.ListN.{get_or}
 use Rattle.std.specs.Prelude.{Some}
 use Rattle.molecule.specs.Kinds.{symbol_of}
@@ -10,7 +11,7 @@ use Rattle.kinds.proofs.Kind.small.Goals.{After-self}
 use Rattle.kinds.proofs.Kind.small.Goals as goal
 
 second : (c : After-self) → get_or smalls c.self.inside.number 0 ≡ get_or (symbol_of c.args.self) 1 0
-second c = second_at c.self.inside.number c.self.invariant ∙ ap (λ (k : ℕ). get_or (symbol_of k) 1 0) c.self.view_is
+second c = second_at c.self.inside.number (omega (arith, c.self.view_is, c.requires)) ∙ ap (λ (k : ℕ). get_or (symbol_of k) 1 0) c.self.view_is
 
 some : (n : ℕ) → (n ≡ 0 → ⊥) → Some n ≡ letter_of n
 some zero h = absurd (h refl)

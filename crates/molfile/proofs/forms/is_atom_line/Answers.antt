@@ -1,5 +1,5 @@
 -- One law of FormLaws for each way through the test.
-use Rattle.std.proofs.Common.{true, false, true≢false, not, sym, ◌∙◌, ap}
+use Rattle.std.proofs.Common.{true≢false, not, sym, ◌∙◌, ap}
 use Rattle.ctfile.specs.Fields.{are_blank}
 use Rattle.molfile.proofs.FormLaws.{is-zero, atom-blank, atom-mass, atom-charge}
 use Rattle.molfile.proofs.forms.is_atom_line.Goals.{then-not-are_blank, else-not-are_blank}

@@ -7,12 +7,12 @@ use Rattle.molfile.proofs.forms.kind_in.Goals as goal
 pub returns-in-1 : goal.returns-in-1
 returns-in-1 c =
     let e = c.untrailed-symbol.ensures ∙ ap untrailed (c.unled.ensures ∙ ap unled c.columns-field.ensures) in
-    c.of_capital.ensures ∙ kind-one c.args.line.now c.untrailed-symbol.result.now e (omega arith)
+    c.of_capital.ensures.is ∙ kind-one c.args.line.now c.untrailed-symbol.result.now e (omega arith)
 
 pub returns-in-2 : goal.returns-in-2
 returns-in-2 c =
     let e = c.untrailed-symbol.ensures ∙ ap untrailed (c.unled.ensures ∙ ap unled c.columns-field.ensures) in
-    c.of_letters.ensures ∙ kind-two c.args.line.now c.untrailed-symbol.result.now e (omega arith)
+    c.of_letters.ensures.is ∙ kind-two c.args.line.now c.untrailed-symbol.result.now e (omega arith)
 
 pub returns-in_default : goal.returns-in_default
 returns-in_default c =

@@ -1,5 +1,5 @@
 -- One law of PropertyLaws for each way through the test.
-use Rattle.std.proofs.Common.{true, false, true≢false, sym, ◌∙◌}
+use Rattle.std.proofs.Common.{true≢false, sym, ◌∙◌}
 use Rattle.molfile.proofs.TextLaws.{compared}
 use Rattle.molfile.proofs.PropertyLaws.{zero-charge, zero-radical, zero-isotope}
 use Rattle.molfile.proofs.properties.lists_entries.Goals.{then-starts_with, else-starts_with}

@@ -28,4 +28,4 @@ returns-then-not-lone_capital c =
 pub returns : goal.returns
 returns c =
     body-letter _ _ _ c.requires.1 c.requires.2 c.if-text-at.false _ c.if-b-eq47.false c.if-b-eq40.false
-    (sym c.lone_capital.ensures ∙ c.if-not-lone_capital.false) c.of_capital-kind.ensures
+    (sym c.lone_capital.ensures ∙ c.if-not-lone_capital.false) c.of_capital-kind.ensures.is

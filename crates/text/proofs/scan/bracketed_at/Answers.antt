@@ -11,4 +11,4 @@ returns-then-not-is_symbol c = bracket_bad _ _ _ c.requires.1 c.requires.2 (omeg
 
 pub returns : goal.returns
 returns c =
-    bracket_good _ _ _ c.requires.1 c.requires.2 (omega arith) _ c.of_letters-kind.ensures (sym c.is_symbol.ensures ∙ c.if-not-is_symbol.false)
+    bracket_good _ _ _ c.requires.1 c.requires.2 (omega arith) _ c.of_letters-kind.ensures.is (sym c.is_symbol.ensures ∙ c.if-not-is_symbol.false)

@@ -11,7 +11,7 @@ use Rattle.drawing.proofs.Taken.{mapped_at, mapped_long, taken_length, taken_the
 use Rattle.refusal.specs.declared.Refusal.{Refusal}
 use Rattle.card.proofs.Faults.{rest_end}
 use Rattle.drawing.proofs.CountLaws.{unknown}
-use Rattle.drawing.proofs.Bared.{kind_known, kind_unknown, AtomsTo, atoms_start, atoms_few, atoms_room, atoms_stop, atoms_next, atoms_done}
+use Rattle.drawing.proofs.Bared.{known_given, unknown_given, AtomsTo, atoms_start, atoms_few, atoms_room, atoms_stop, atoms_next, atoms_done}
 use Rattle.drawing.proofs.folding.Folding.put_atoms.Goals.{Start, At-loop-p}
 use Rattle.drawing.proofs.folding.Folding.put_atoms.Goals as goal
 
@@ -37,12 +37,22 @@ overflow_cast-self c =
     let k = atoms_few (kinds_in c.args.drawing.now) c.loop-p.p c.loop-p.self c.loop-p.invariant h c.requires.2 in
     omega (arith, k)
 
+-- Before the return: where a kind that is none is let through, this is what fails.
+pub loop-p-preserved : goal.loop-p-preserved
+loop-p-preserved c =
+    let s = (goal.at.loop-p-preserved c).Start in
+    let ks = kinds_in c.args.drawing.now in
+    let h : c.loop-p.p < length ks = omega (arith, size s) in
+    let w = known_given (get_or c.args.drawing.now.kinds c.loop-p.p c.index-drawing-p.result) _ _ _ c.known.ensures c.ok_or.ensures.value _ c.in_ok-kind.was in
+    let k = sym w.0 ∙ kind-is s c.loop-p.p c.index-drawing-p.result c.loop-p-test.true in
+    atoms_next ks c.loop-p.p c.loop-p.self c.loop-p.invariant h c.requires.2 (omega (arith, size s, c.requires.1.atoms)) _ k w.1 _ c.put_kind.ensures
+
 pub returns-in_err-kind : goal.returns-in_err-kind
 returns-in_err-kind c =
     let s = (goal.at.returns-in_err-kind c).Start in
     let ks = kinds_in c.args.drawing.now in
     let h : c.loop-p.p < length ks = omega (arith, size s) in
-    let u = kind_unknown _ _ _ (sym c.ok_or.ensures.value ∙ c.in_err-kind.was) in
+    let u = unknown_given (get_or c.args.drawing.now.kinds c.loop-p.p c.index-drawing-p.result) _ _ _ c.known.ensures c.ok_or.ensures.value _ c.in_err-kind.was in
     let e : c.from_residual.result ≡ Err c.in_err-kind.field-0.0 = search rules in
     let k = kind-is s c.loop-p.p c.index-drawing-p.result c.loop-p-test.true in
     let f = atoms_stop ks c.loop-p.p c.loop-p.self c.loop-p.invariant h c.requires.2 (omega (arith, u.0, k)) in
@@ -53,16 +63,9 @@ put_kind-requires c =
     let s = (goal.at.put_kind-requires c).Start in
     let ks = kinds_in c.args.drawing.now in
     let h : c.loop-p.p < length ks = omega (arith, size s) in
-    let k = sym (kind_known _ _ _ (sym c.ok_or.ensures.value ∙ c.in_ok-kind.was)) ∙ kind-is s c.loop-p.p c.index-drawing-p.result c.loop-p-test.true in
+    let w = known_given (get_or c.args.drawing.now.kinds c.loop-p.p c.index-drawing-p.result) _ _ _ c.known.ensures c.ok_or.ensures.value _ c.in_ok-kind.was in
+    let k = sym w.0 ∙ kind-is s c.loop-p.p c.index-drawing-p.result c.loop-p-test.true in
     atoms_room ks c.loop-p.p c.loop-p.self c.loop-p.invariant h c.requires.2 _ k
-
-pub loop-p-preserved : goal.loop-p-preserved
-loop-p-preserved c =
-    let s = (goal.at.loop-p-preserved c).Start in
-    let ks = kinds_in c.args.drawing.now in
-    let h : c.loop-p.p < length ks = omega (arith, size s) in
-    let k = sym (kind_known _ _ _ (sym c.ok_or.ensures.value ∙ c.in_ok-kind.was)) ∙ kind-is s c.loop-p.p c.index-drawing-p.result c.loop-p-test.true in
-    atoms_next ks c.loop-p.p c.loop-p.self c.loop-p.invariant h c.requires.2 (omega (arith, size s, c.requires.1.atoms)) _ k c.put_kind.ensures.known _ c.put_kind.ensures.put
 
 pub returns : goal.returns
 returns c =
