@@ -5,15 +5,15 @@ use Prim.Native.Nat.{ℕ, ◌+◌, ◌-◌, ◌<◌}
 use native.Mathlib.Omega.{arith}
 use lib.Dec.{eqb}
 use lib.ListN.{length, take, drop, length-drop}
-use lib.Seq.{take_all}
 use Rattle.std.specs.Prelude.{Option, Some, position}
 use Rattle.molfile.specs.Cutting.{line_feed}
 use Rattle.table.proofs.Positions.{position-some, position-none}
+use Rattle.molfile.proofs.FieldLaws.{rest}
 use Rattle.molfile.proofs.line.line_feed.Goals as goal
 
 -- what is left from an offset on, as a slice has it
 left : (l : List ℕ) (a : ℕ) (r : Option ℕ) → r ≡ position (λ b. eqb b 10) (take (length l - a) (drop a l)) → position (λ b. eqb b 10) (drop a l) ≡ r
-left l a r e = sym (e ∙ ap (λ (k : List ℕ). position (λ b. eqb b 10) k) (take_all (length l - a) (drop a l) (omega (arith, length-drop a l))))
+left l a r e = sym (e ∙ ap (λ (k : List ℕ). position (λ b. eqb b 10) k) (rest l a))
 
 found : (l : List ℕ) (a p : ℕ) (r : Option ℕ) → r ≡ position (λ b. eqb b 10) (take (length l - a) (drop a l)) → r ≡ Some p
     → (line_feed (drop a l) ≡ p) × (p < length (drop a l))
