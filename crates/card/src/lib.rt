@@ -1,9 +1,7 @@
 // Cards: any bytes to a table or a refusal, and a table to the bytes of its card.
 #![tactic(auto)]
 
-ghost use Rattle.std.specs.Prelude.{ℕ, ◌<◌, ◌≤◌};
 ghost use Rattle.lent.specs.Written.{Written};
-ghost use Rattle.molecule.specs.Molecule.{kind};
 ghost use Rattle.molecule.specs.Written.{card_bytes};
 ghost use Rattle.table.specs.View.{view_of, TidyTable};
 ghost use Rattle.card.specs.Reading.{IsRead};
@@ -15,6 +13,8 @@ use writing::Writer;
 mod atoms;
 pub mod bonds;
 pub mod layout;
+#[cfg(test)]
+mod tests;
 mod writing;
 
 // Reads a card by the order of document 01: 2 for the whole layout; 1; 4; atoms 3, 4; total 4; bonds 5, 6, 4; 8.
@@ -35,7 +35,7 @@ pub fn read(card: &[u8]) -> Result<Table, Refusal>
 
 // Writes the card of a table: each bond with its lower atom first, bonds ascending. Its length is known before a byte is written.
 pub fn write(t: &Table, out: &mut [u8]) -> Result<usize, Refusal>
-    requires { TidyTable t.now × ((a : ℕ) → a < (view_of t.now).size → kind (view_of t.now) a ≤ 24) }
+    requires { TidyTable t.now }
     ensures { Written (card_bytes (view_of t.now)) out.old out.new result }
 {
     let bonds = writing::bonds_length(t);

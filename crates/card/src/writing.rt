@@ -1,5 +1,5 @@
 // The parts of a card written one after the other into a lent buffer.
-ghost use Rattle.std.specs.Prelude.{◌≡◌, ℕ, ◌+◌, ◌*◌, ◌/◌, ◌%◌, ◌<◌, ◌≤◌, length, get_or};
+ghost use Rattle.std.specs.Prelude.{◌≡◌, ◌+◌, ◌*◌, ◌/◌, ◌%◌, ◌<◌, ◌≤◌, length};
 ghost use mathlib.Core.List.{[], ◌∷◌, flatten};
 ghost use Rattle.lists.specs.Upto.{each, sum};
 ghost use Rattle.table.specs.Arrays.{HasRow};
@@ -39,7 +39,7 @@ impl Writer<'_> {
 
     // Two bytes for each atom.
     pub fn atoms(&mut self, t: &Table)
-        requires { TidyTable t.now × (self.old.at + 2 * t.now.n ≤ length self.old.out.now) × ((a : ℕ) → a < t.now.n → get_or t.now.kinds a 0 ≤ 24) }
+        requires { TidyTable t.now × (self.old.at + 2 * t.now.n ≤ length self.old.out.now) }
         ensures { PutIn self.old (flatten (each t.now.n (atom_piece t.now.kinds t.now.hydrogens))) self.new }
     {
         for a in 0..t.n {

@@ -9,7 +9,7 @@ use native.Mathlib.Omega.{arith}
 use lib.Dec.{eqb, ltb}
 use lib.ListN.{length, get_or, set, replicate, length-set, length-replicate, get_or-replicate, length-append, get_or-append}
 use lib.Seq.{get_or-append_seam, get_or-set_same, get_or-set_other}
-use borrow.Author.Tests.{ne_eqb, eqb-false, lt-ltb, le-ltb, ltb-true, ltb-false}
+use borrow.Author.Tests.{ne_eqb, eqb-false, lt-ltb, le-ltb}
 use Rattle.lists.specs.Upto.{from}
 use Rattle.lists.specs.Tests.{keep, count}
 use Rattle.lists.proofs.Upto.{each-get_or}
@@ -22,6 +22,7 @@ use Rattle.card.proofs.Faults.{Rest, rest_stop, rest_next}
 use Rattle.std.specs.Prelude.{Option, Some, None, Result, Ok, Err}
 use Rattle.std.specs.Option.{ok_or}
 use Rattle.kinds.specs.Known.{kind_in, known_in}
+use Rattle.kinds.proofs.Known.{known_some, known_none}
 use Rattle.refusal.specs.declared.Refusal.{Refusal}
 use Rattle.drawing.specs.declared.folding.Folding.{Folding}
 use Rattle.drawing.specs.Tests.{heavy_in, unknown_tested}
@@ -29,21 +30,28 @@ use Rattle.drawing.specs.Folding.{empty_folding, heavies_to, with_kind, KindPut,
 use Rattle.drawing.proofs.CountLaws.{unknown, unknown-start}
 
 -- an atom's kind, where its symbol is known
-pub kind_known : (k : Option ℕ) (r : Refusal) (x : ℕ) → ok_or (known_in k) r ≡ Ok x → (kind_in k ≡ x) × (x ≤ 24)
+pub kind_known : (k : Option ℕ) (r : Refusal) (x : ℕ) → ok_or k r ≡ Ok x → kind_in k ≡ x
+kind_known (Some k) r x e = cc
 kind_known None r x e = cc
-kind_known (Some k) r x e = go (ltb k 25) refl
-  where
-    go : (b : Bool) → ltb k 25 ≡ b → (k ≡ x) × (x ≤ 24)
-    go true q = let z : k ≡ x = (let y = rw q at e in cc) in (z, omega (arith, ltb-true k 25 q))
-    go false q = let y = rw q at e in cc
 
-pub kind_unknown : (k : Option ℕ) (r s : Refusal) → ok_or (known_in k) r ≡ Err s → (24 < kind_in k) × (s ≡ r)
-kind_unknown None r s e = (omega arith, cc)
-kind_unknown (Some k) r s e = go (ltb k 25) refl
-  where
-    go : (b : Bool) → ltb k 25 ≡ b → (24 < k) × (s ≡ r)
-    go true q = let y = rw q at e in cc
-    go false q = let z : s ≡ r = (let y = rw q at e in cc) in (omega (arith, ltb-false k 25 q), z)
+pub kind_unknown : (k : Option ℕ) (r s : Refusal) → ok_or k r ≡ Err s → (kind_in k ≡ 25) × (s ≡ r)
+kind_unknown (Some k) r s e = cc
+kind_unknown None r s e = (refl, cc)
+
+-- and where its number is a kind's besides
+number_given : (o : Option ℕ) (r : Refusal) (x : ℕ) → ok_or o r ≡ Ok x → o ≡ Some x
+number_given (Some k) r x e = let z : k ≡ x = cc in ap Some z
+number_given None r x e = cc
+
+pub number_known : (k : Option ℕ) (r : Refusal) (x : ℕ) → ok_or (known_in k) r ≡ Ok x → (kind_in k ≡ x) × (x ≤ 24)
+number_known k r x e = known_some k x (number_given (known_in k) r x e)
+
+none_given : (o : Option ℕ) (r s : Refusal) → ok_or o r ≡ Err s → (o ≡ None) × (s ≡ r)
+none_given (Some k) r s e = cc
+none_given None r s e = (refl, cc)
+
+pub number_unknown : (k : Option ℕ) (r s : Refusal) → ok_or (known_in k) r ≡ Err s → (24 < kind_in k) × (s ≡ r)
+number_unknown k r s e = let g = none_given (known_in k) r s e in (known_none k g.0, g.1)
 
 -- both of what was looked up, and of what came of it
 module _ (k found : Option ℕ) (r : Refusal) (got : Result ℕ Refusal) (f : found ≡ known_in k) (g : got ≡ ok_or found r) where
@@ -51,10 +59,10 @@ module _ (k found : Option ℕ) (r : Refusal) (got : Result ℕ Refusal) (f : fo
   looked o e = ap (λ (x : Option ℕ). ok_or x r) (sym f) ∙ sym g ∙ e
 
   pub known_given : (x : ℕ) → got ≡ Ok x → (kind_in k ≡ x) × (x ≤ 24)
-  known_given x e = kind_known k r x (looked (Ok x) e)
+  known_given x e = number_known k r x (looked (Ok x) e)
 
   pub unknown_given : (s : Refusal) → got ≡ Err s → (24 < kind_in k) × (s ≡ r)
-  unknown_given s e = kind_unknown k r s (looked (Err s) e)
+  unknown_given s e = number_unknown k r s (looked (Err s) e)
 
 module _ (ks : List ℕ) where
   abbrev pub heavy : ℕ → Bool

@@ -15,7 +15,8 @@ use Rattle.lists.specs.Order.{lex}
 use Rattle.lists.proofs.Order.{number-order, lex-order, is_eq_true}
 use Rattle.lists.proofs.Booleans.{and_both}
 use Rattle.lists.proofs.Tested.{every-true_below}
-use Rattle.molecule.specs.Kinds.{kinds, symbol_of, number_of, kind_of_symbol, kind_of_number}
+use Rattle.std.proofs.lemmas.List.{get_or_past}
+use Rattle.molecule.specs.Kinds.{Kind, kinds, symbol_of, number_of, kind_of_symbol, kind_of_number}
 use Rattle.molecule.proofs.KindsTable.{symbol_of-kind_of_symbol, kind_of_symbol-symbol_of, number_of-kind_of_number}
 
 unfoldable pub numbers : List ℕ
@@ -101,6 +102,37 @@ first-at k h = sym (ap (λ (l : List ℕ). get_or l 0 0) (symbol-at k h) ∙ let
 
 pub second_at : (k : ℕ) → k ≤ 24 → get_or smalls k 0 ≡ get_or (symbol_of k) 1 0
 second_at k h = sym (ap (λ (l : List ℕ). get_or l 1 0) (symbol-at k h) ∙ letters_second (get_or capitals k 0) (get_or smalls k 0))
+
+-- A number that is no kind's has the rules' number 0 and no letters, and no entry in the arrays.
+
+pub no_symbol : (k : ℕ) → 24 < k → symbol_of k ≡ []
+unfolding symbol_of kinds
+no_symbol k h = ap (λ (e : Kind). e.symbol) (get_or_past kinds k (record { symbol = []; number = 0 }) (omega arith))
+
+no_atomic : (k : ℕ) → 24 < k → number_of k ≡ 0
+unfolding number_of kinds
+no_atomic k h = ap (λ (e : Kind). e.number) (get_or_past kinds k (record { symbol = []; number = 0 }) (omega arith))
+
+-- an array over the kinds that follows a rule follows it at every number, where the rule gives 0 past the kinds
+module _ (array : List ℕ) (rule : ℕ → ℕ) (long : length array ≡ 25) (known : (k : ℕ) → k ≤ 24 → get_or array k 0 ≡ rule k) (past : (k : ℕ) → 24 < k → rule k ≡ 0) where
+  everywhere : (k : ℕ) → get_or array k 0 ≡ rule k
+  everywhere k = pick (dec_lt k 25)
+    where
+      pick : Dec (k < 25) → get_or array k 0 ≡ rule k
+      pick (yes l) = known k (omega arith)
+      pick (no l) = get_or_past array k 0 (omega (arith, long)) ∙ sym (past k (omega arith))
+
+pub number-everywhere : (k : ℕ) → get_or numbers k 0 ≡ number_of k
+unfolding numbers
+number-everywhere = everywhere numbers number_of refl number-at no_atomic
+
+pub first-everywhere : (k : ℕ) → get_or capitals k 0 ≡ get_or (symbol_of k) 0 0
+unfolding capitals
+first-everywhere = everywhere capitals (λ k. get_or (symbol_of k) 0 0) refl first-at (λ k h. ap (λ (l : List ℕ). get_or l 0 0) (no_symbol k h))
+
+pub second_everywhere : (k : ℕ) → get_or smalls k 0 ≡ get_or (symbol_of k) 1 0
+unfolding smalls
+second_everywhere = everywhere smalls (λ k. get_or (symbol_of k) 1 0) refl second_at (λ k h. ap (λ (l : List ℕ). get_or l 1 0) (no_symbol k h))
 
 -- What is not in the table is kind 25: a kind below that would have the number or the symbol.
 

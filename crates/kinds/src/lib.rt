@@ -7,8 +7,11 @@ ghost use Rattle.kinds.specs.Known.{kind_in, known_in, letter_of};
 
 use std::marker::Model;
 
+#[cfg(test)]
+mod tests;
+
 /// A kind by its number: from 1 on one of the 24, and 0 is H, which occurs only in text and in a molfile. A number above
-/// 24 is no kind's; who needs one of the 25 says so.
+/// 24 is no kind's; who judges asks `known`.
 #[derive(Clone, Copy, PartialEq, Eq, PartialOrd, Ord, Drop)]
 pub struct Kind {
     pub number: u8,
@@ -127,27 +130,35 @@ impl Kind {
         self.number
     }
 
-    pub fn atomic_number(self) -> u8
-        requires { self ≤ 24 }
-        ensures { result ≡ number_of self }
+    // An array's entry at its number, and 0 where that is no kind's.
+    fn entry(self, array: &[u8; COUNT]) -> u8
+        ensures { result ≡ get_or array.now self 0 }
     {
-        NUMBERS[self.number as usize]
+        if NONE <= self.number {
+            return 0;
+        }
+        array[self.number as usize]
     }
 
-    // The symbol's first letter.
+    // 0 where the number is no kind's.
+    pub fn atomic_number(self) -> u8
+        ensures { result ≡ number_of self }
+    {
+        self.entry(&NUMBERS)
+    }
+
+    // The symbol's first letter, 0 where the number is no kind's.
     pub fn capital(self) -> u8
-        requires { self ≤ 24 }
         ensures { result ≡ get_or (symbol_of self) 0 0 }
     {
-        CAPITALS[self.number as usize]
+        self.entry(&CAPITALS)
     }
 
     // The symbol's second letter, where it has two.
     pub fn small(self) -> Option<u8>
-        requires { self ≤ 24 }
         ensures { result ≡ letter_of (get_or (symbol_of self) 1 0) }
     {
-        let letter = SMALLS[self.number as usize];
+        let letter = self.entry(&SMALLS);
         if letter == 0 { None } else { Some(letter) }
     }
 }

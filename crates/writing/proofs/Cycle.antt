@@ -140,8 +140,8 @@ module _ (t : Table) (s : Sheet) (v : Served) (k d : ℕ) (W : Molecule) (w : Wr
       new_kind : kind_at W (suc next) ≡ x
       new_kind = kind-is ∙ get_or_default t.kinds next 0 y (omega (arith, next-atom, T.lent.atoms, T.lent.kinds_long))
 
-      pub onward-known : x ≤ 24
-      onward-known = omega (arith, kind-is, new_kind, T.lent.known next next-atom)
+      pub onward-known : ((b : ℕ) → b < W.size → get_or t.kinds b 0 ≤ 24) → x ≤ 24
+      onward-known known = omega (arith, kind-is, new_kind, known next next-atom)
 
       abbrev branched : Written
       branched = put (suc next) x code (serve (suc a) w)

@@ -79,7 +79,6 @@ module _ (t : Table) (N : Nameable t) where
         atoms = N.tidy.atoms;
         kinds_long = N.tidy.kinds_long;
         kind_of = λ a h. refl;
-        known = N.known;
         hydrogens_of = λ a h. refl;
         few = N.tidy.few;
         row = λ a h. neighbours-row (arrays_of t) N.tidy a h;
@@ -96,8 +95,8 @@ module _ (t : Table) (N : Nameable t) where
   first-kind : (y : ℕ) → get_or t.kinds 0 y ≡ get_or t.kinds 0 0
   first-kind y = get_or_default t.kinds 0 y 0 (omega (arith, N.tidy.kinds_long))
 
-  pub first-known : (y : ℕ) → get_or t.kinds 0 y ≤ 24
-  first-known y = omega (arith, first-kind y, N.known 0 N.some)
+  pub first-known : ((a : ℕ) → a < t.n → get_or t.kinds a 0 ≤ 24) → (y : ℕ) → get_or t.kinds 0 y ≤ 24
+  first-known known y = omega (arith, first-kind y, known 0 N.some)
 
   pub first-room : (y : ℕ) → size (begun (get_or t.kinds 0 y)) ≤ 2048
   first-room y =
@@ -124,4 +123,8 @@ module _ (t : Table) (N : Nameable t) where
 -- what a sound molecule's table, in rank order, brings
 pub sound-nameable : (t : Table) → TidyTable t → Sound (view_of t) → length (name_bytes (view_of t)) ≤ 2048 → Nameable t
 unfolding as_molecule
-sound-nameable t T S h = record { tidy = T; some = S.some; known = S.known; room = h }
+sound-nameable t T S h = record { tidy = T; some = S.some; room = h }
+
+pub sound-known : (t : Table) → Sound (view_of t) → (a : ℕ) → a < t.n → get_or t.kinds a 0 ≤ 24
+unfolding as_molecule
+sound-known t S = S.known

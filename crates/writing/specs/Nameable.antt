@@ -1,5 +1,5 @@
 -- What the writer asks of a table.
-use Rattle.std.specs.Prelude.{ℕ, ◌<◌, ◌≤◌, length, get_or}
+use Rattle.std.specs.Prelude.{◌<◌, ◌≤◌, length}
 use Rattle.sling.specs.Printed.{name_bytes}
 use Rattle.table.specs.declared.Table.{Table}
 use Rattle.table.specs.View.{view_of, TidyTable}
@@ -8,5 +8,4 @@ use Rattle.table.specs.View.{view_of, TidyTable}
 pub record Nameable (t : Table) : Type 0 where
   pub tidy : TidyTable t
   pub some : 0 < t.n
-  pub known : (a : ℕ) → a < t.n → get_or t.kinds a 0 ≤ 24
   pub room : length (name_bytes (view_of t)) ≤ 2048

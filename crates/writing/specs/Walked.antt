@@ -12,7 +12,6 @@ pub record Lent (t : Table) (W : Molecule) : Type 0 where
   pub atoms : W.size ≤ 64
   pub kinds_long : length t.kinds ≡ 64
   pub kind_of : (a : ℕ) → a < W.size → kind W a ≡ get_or t.kinds a 0
-  pub known : (a : ℕ) → a < W.size → get_or t.kinds a 0 ≤ 24
   pub hydrogens_of : (a : ℕ) → a < W.size → hydrogens W a ≡ get_or t.hydrogens a 0
   pub few : (a : ℕ) → a < W.size → get_or t.rows.degrees a 0 ≤ 6
   pub row : (a : ℕ) → a < W.size → neighbours W a ≡ take (get_or t.rows.degrees a 0) (drop (6 * a) t.rows.near)

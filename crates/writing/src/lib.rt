@@ -14,6 +14,8 @@ use walk::Sheet;
 mod place;
 mod printed;
 mod strokes;
+#[cfg(test)]
+mod tests;
 mod walk;
 
 // An atom being served, and where it is written.

@@ -1,5 +1,5 @@
 // The bytes of a name, put one item behind the other.
-ghost use Rattle.std.specs.Prelude.{[], ◌∷◌, ◌++◌, ◌≡◌, ◌+◌, ◌<◌, ◌≤◌};
+ghost use Rattle.std.specs.Prelude.{[], ◌∷◌, ◌++◌, ◌≡◌, ◌+◌, ◌<◌};
 ghost use Rattle.sling.specs.Items.{at, reference};
 ghost use Rattle.sling.specs.Printed.{decimal, mark_bytes, symbol_bytes, item_bytes};
 ghost use Rattle.writing.specs.Room.{Room};
@@ -90,20 +90,26 @@ impl Name {
         }
     }
 
-    #[tactic(auto, using(crate::proofs::Symbols::symbol_one, crate::proofs::Symbols::symbol_two))]
+    #[tactic(auto, using(kinds::proofs::Known::known_some, crate::proofs::Symbols::symbol_none, crate::proofs::Symbols::symbol_one, crate::proofs::Symbols::symbol_two))]
     pub fn put_symbol(&mut self, kind: Kind)
-        requires { (kind ≤ 24) × Room self.old (symbol_bytes kind) }
+        requires { Room self.old (symbol_bytes kind) }
         ensures { self.new ≡ self.old ++ symbol_bytes kind }
     {
-        let capital = kind.capital();
-        match kind.small() {
+        // A number that is no kind's has no letters. The two bytes stand in an array of their own: a slice of constants costs a copy of the name.
+        let Some(known) = Kind::known(Some(kind)) else {
+            let bare = [b'(', b')'];
+            self.put(&bare);
+            return;
+        };
+        let capital = known.capital();
+        match known.small() {
             Some(small) => self.put(&[b'(', capital, small, b')']),
             None => self.put(&[capital]),
         }
     }
 
     pub fn put_atom(&mut self, code: u8, kind: Kind)
-        requires { (kind ≤ 24) × Room self.old (mark_bytes code ++ symbol_bytes kind) }
+        requires { Room self.old (mark_bytes code ++ symbol_bytes kind) }
         ensures { self.new ≡ self.old ++ (mark_bytes code ++ symbol_bytes kind) }
     {
         self.put_mark(code);

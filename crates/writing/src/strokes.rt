@@ -19,7 +19,7 @@ pub struct Pen {
 impl Pen {
     // "Start at rank 1. To write an atom: symbol"
     pub fn started(kind: Kind) -> Pen
-        requires { (kind ≤ 24) × (size (begun kind) ≤ 2048) }
+        requires { size (begun kind) ≤ 2048 }
         ensures { Lettered result (begun kind) }
     {
         let mut name = Name::empty();
@@ -48,7 +48,7 @@ impl Pen {
 
     // An atom behind a mark, bonded to the cursor's: the cursor moves to it.
     pub fn put(&mut self, code: u8, kind: Kind)
-        requires { (kind ≤ 24) × ((s : ℕ) × (w : Written) × Lettered self.old w × (size (put s kind code w) ≤ 2048)) }
+        requires { (s : ℕ) × (w : Written) × Lettered self.old w × (size (put s kind code w) ≤ 2048) }
         ensures { (s : ℕ) (w : Written) → Lettered self.old w → size (put s kind code w) ≤ 2048 → Lettered self.new (put s kind code w) }
     {
         self.name.put_atom(code, kind);

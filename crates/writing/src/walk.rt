@@ -34,7 +34,7 @@ impl Sheet {
 
     // The atom of rank 1, of the kind given, is written, and nothing else.
     pub fn started(kind: Kind) -> Sheet
-        requires { (kind ≤ 24) × (size (begun kind) ≤ 2048) }
+        requires { size (begun kind) ≤ 2048 }
         ensures { (n : ℕ) → n ≤ 64 → Shows n result (begun kind) }
     {
         let mut places = [None; Table::MAX_ATOMS];

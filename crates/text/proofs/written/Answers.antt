@@ -1,17 +1,11 @@
 -- One law of AnswerLaws for each return.
 use Rattle.std.proofs.Common.{sym, ◌∙◌, rules}
 use Rattle.text.specs.Holding.{view_of}
-use Rattle.text.proofs.ReachedLaws.{reached-reader}
-use Rattle.text.proofs.AnswerLaws.{written-7, written-mapped, folded-known}
+use Rattle.text.proofs.AnswerLaws.{written-7, written-mapped}
 use Rattle.text.proofs.written.Goals as goal
 
 pub returns-then-lone_h : goal.returns-then-lone_h
 returns-then-lone_h c = written-7 (view_of c.args.state.now) c.args.n c.args.out.now (sym c.lone_h.ensures ∙ c.if-lone_h.true)
-
-pub write-requires : goal.write-requires
-write-requires c =
-    let S = view_of c.args.state.now in
-    (c.folded-table.ensures.0, folded-known S (reached-reader S c.requires.reached) _ c.folded-table.ensures.1)
 
 pub returns : goal.returns
 returns c =

@@ -6,11 +6,11 @@ use lib.ListN.{get_or}
 use Rattle.lent.specs.Written.{Written}
 use Rattle.table.specs.View.{view_of}
 use Rattle.writing.specs.Shown.{begun}
-use Rattle.writing.proofs.Top.{first-known, first-room, walk_ready, name-whole}
+use Rattle.writing.proofs.Top.{first-room, walk_ready, name-whole}
 use Rattle.writing.proofs.write.Goals as goal
 
 pub started-sheet-requires : goal.started-sheet-requires
-started-sheet-requires c = (first-known c.args.t.now c.requires c.index-t-0.result, first-room c.args.t.now c.requires c.index-t-0.result)
+started-sheet-requires c = first-room c.args.t.now c.requires c.index-t-0.result
 
 pub finish-requires : goal.finish-requires
 finish-requires c =

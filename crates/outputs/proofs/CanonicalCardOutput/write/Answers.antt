@@ -3,14 +3,11 @@ use mathlib.Core.List.{List}
 use mathlib.Core.Path.{subst}
 use Prim.Native.Nat.{ℕ}
 use Rattle.lent.specs.Written.{Written}
-use Rattle.outputs.proofs.Ready.{plain, known, card-is}
+use Rattle.outputs.proofs.Ready.{plain, card-is}
 use Rattle.outputs.proofs.CanonicalCardOutput.write.Goals as goal
 
 pub renumbered-requires : goal.renumbered-requires
 renumbered-requires c = plain _ _ c.requires
-
-pub write-requires : goal.write-requires
-write-requires c = let u = c.renumbered.ensures in (u.0, known _ _ c.requires _ u.0 u.1)
 
 pub returns : goal.returns
 returns c =

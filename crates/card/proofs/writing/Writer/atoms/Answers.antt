@@ -15,11 +15,6 @@ use Rattle.card.proofs.writing.Writer.atoms.Goals as goal
 pub loop-a-init : goal.loop-a-init
 loop-a-init c = put_start (atom_piece c.args.t.now.kinds c.args.t.now.hydrogens) c.args.self.now
 
-pub atomic_number-requires : goal.atomic_number-requires
-atomic_number-requires c =
-    let e : get_or c.args.t.now.kinds c.loop-a.a c.index-t-a.result ≡ get_or c.args.t.now.kinds c.loop-a.a 0 = grind (arith, get_or_default_zero) in
-    omega (arith, e, c.requires.2 c.loop-a.a c.loop-a-test.true)
-
 pub put-requires : goal.put-requires
 put-requires c =
     put_room (atom_piece c.args.t.now.kinds c.args.t.now.hydrogens) c.args.self.now c.loop-a.self c.args.t.now.n c.loop-a.a c.loop-a.invariant

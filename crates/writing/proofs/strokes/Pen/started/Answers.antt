@@ -8,7 +8,7 @@ use Rattle.writing.proofs.Top.{begun-size, begun-letters}
 use Rattle.writing.proofs.strokes.Pen.started.Goals as goal
 
 pub put_symbol-requires : goal.put_symbol-requires
-put_symbol-requires c = (c.requires.0, omega (arith, c.requires.1, begun-size c.args.kind, ap length c.empty-name.ensures))
+put_symbol-requires c = omega (arith, c.requires, begun-size c.args.kind, ap length c.empty-name.ensures)
 
 pub returns : goal.returns
-returns c = begun-letters c.args.kind _ c.requires.1 (c.put_symbol.ensures ∙ ap (λ (l : List ℕ). l ++ symbol_bytes c.args.kind) c.empty-name.ensures) c.next-next.ensures refl refl
+returns c = begun-letters c.args.kind _ c.requires (c.put_symbol.ensures ∙ ap (λ (l : List ℕ). l ++ symbol_bytes c.args.kind) c.empty-name.ensures) c.next-next.ensures refl refl

@@ -1,7 +1,7 @@
 use Rattle.std.proofs.Common.{suc, arith, sym, ◌∙◌, subst}
 use Rattle.sling.specs.Walk.{serve}
 use Rattle.writing.specs.Walked.{Shows}
-use Rattle.writing.proofs.Cycle.{finish-none, hydrogens-room, going, finish-split, along_none, along_next, along_end, along_ready, shows_done, here_room, back_there, back_room, shows_back, onward-known, onward_is, onward_room, onward_ready}
+use Rattle.writing.proofs.Cycle.{finish-none, hydrogens-room, going, finish-split, along_none, along_next, along_end, along_ready, shows_done, here_room, back_there, back_room, shows_back, onward_is, onward_room, onward_ready}
 use Rattle.writing.proofs.walk.Sheet.+finish_trace.Goals as goal
 
 pub finish-returns-then-depth-eq0 : goal.finish-returns-then-depth-eq0
@@ -67,13 +67,10 @@ pub trace-put-requires : goal.trace-put-requires
 trace-put-requires t c =
     let q = c.requires in
     let r = suc c.args.served.now.atom.0 in (
-      onward-known _ _ _ _ _ q.0 q.1 q.2 c.if-self-a.false _ c.in-None.is c.index-t-b.result,
-      (
-        _,
-        serve r q.1,
-        c.serve.ensures r q.1 q.2.shown.text q.2.on (here_room _ _ _ _ _ q.0 q.1 q.2 c.if-self-a.false),
-        onward_room _ _ _ _ _ q.0 q.1 q.2 c.if-self-a.false _ c.in-None.is c.index-t-b.result,
-      ),
+      _,
+      serve r q.1,
+      c.serve.ensures r q.1 q.2.shown.text q.2.on (here_room _ _ _ _ _ q.0 q.1 q.2 c.if-self-a.false),
+      onward_room _ _ _ _ _ q.0 q.1 q.2 c.if-self-a.false _ c.in-None.is c.index-t-b.result,
     )
 
 pub trace-finish-requires : goal.trace-finish-requires
