@@ -1,13 +1,12 @@
-// The card of document 01's example, written with each bond's lower atom first, and a table whose kind's number no kind has.
+// The card of document 01's example, written with each bond's lower atom first; and one atom of a number that no kind has.
 ghost use Rattle.table.specs.View.{TidyTable};
 
 use crate::{read, write};
 use kinds::Kind;
-use std::test::Fail;
 use table::Table;
 use table::rows::Rows;
 
-// One atom, of a kind by any number.
+// One atom with four hydrogens.
 fn lone(number: u8) -> Table
     ensures { TidyTable result }
 {

@@ -29,29 +29,28 @@ use Rattle.drawing.specs.Tests.{heavy_in, unknown_tested}
 use Rattle.drawing.specs.Folding.{empty_folding, heavies_to, with_kind, KindPut, Bares}
 use Rattle.drawing.proofs.CountLaws.{unknown, unknown-start}
 
+-- what `ok_or` was given
+given_some : (o : Option ℕ) (r : Refusal) (x : ℕ) → ok_or o r ≡ Ok x → o ≡ Some x
+given_some (Some k) r x e = let z : k ≡ x = cc in ap Some z
+given_some None r x e = cc
+
+given_none : (o : Option ℕ) (r s : Refusal) → ok_or o r ≡ Err s → (o ≡ None) × (s ≡ r)
+given_none (Some k) r s e = cc
+given_none None r s e = (refl, cc)
+
 -- an atom's kind, where its symbol is known
 pub kind_known : (k : Option ℕ) (r : Refusal) (x : ℕ) → ok_or k r ≡ Ok x → kind_in k ≡ x
-kind_known (Some k) r x e = cc
-kind_known None r x e = cc
+kind_known k r x e = ap kind_in (given_some k r x e)
 
 pub kind_unknown : (k : Option ℕ) (r s : Refusal) → ok_or k r ≡ Err s → (kind_in k ≡ 25) × (s ≡ r)
-kind_unknown (Some k) r s e = cc
-kind_unknown None r s e = (refl, cc)
+kind_unknown k r s e = let g = given_none k r s e in (ap kind_in g.0, g.1)
 
 -- and where its number is a kind's besides
-number_given : (o : Option ℕ) (r : Refusal) (x : ℕ) → ok_or o r ≡ Ok x → o ≡ Some x
-number_given (Some k) r x e = let z : k ≡ x = cc in ap Some z
-number_given None r x e = cc
-
 pub number_known : (k : Option ℕ) (r : Refusal) (x : ℕ) → ok_or (known_in k) r ≡ Ok x → (kind_in k ≡ x) × (x ≤ 24)
-number_known k r x e = known_some k x (number_given (known_in k) r x e)
-
-none_given : (o : Option ℕ) (r s : Refusal) → ok_or o r ≡ Err s → (o ≡ None) × (s ≡ r)
-none_given (Some k) r s e = cc
-none_given None r s e = (refl, cc)
+number_known k r x e = known_some k x (given_some (known_in k) r x e)
 
 pub number_unknown : (k : Option ℕ) (r s : Refusal) → ok_or (known_in k) r ≡ Err s → (24 < kind_in k) × (s ≡ r)
-number_unknown k r s e = let g = none_given (known_in k) r s e in (known_none k g.0, g.1)
+number_unknown k r s e = let g = given_none (known_in k) r s e in (known_none k g.0, g.1)
 
 -- both of what was looked up, and of what came of it
 module _ (k found : Option ℕ) (r : Refusal) (got : Result ℕ Refusal) (f : found ≡ known_in k) (g : got ≡ ok_or found r) where

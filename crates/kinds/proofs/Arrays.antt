@@ -103,7 +103,7 @@ first-at k h = sym (ap (λ (l : List ℕ). get_or l 0 0) (symbol-at k h) ∙ let
 pub second_at : (k : ℕ) → k ≤ 24 → get_or smalls k 0 ≡ get_or (symbol_of k) 1 0
 second_at k h = sym (ap (λ (l : List ℕ). get_or l 1 0) (symbol-at k h) ∙ letters_second (get_or capitals k 0) (get_or smalls k 0))
 
--- A number that is no kind's has the rules' number 0 and no letters, and no entry in the arrays.
+-- A number that no kind has has the rules' atomic number 0 and no letters, and no entry in the arrays.
 
 pub no_symbol : (k : ℕ) → 24 < k → symbol_of k ≡ []
 unfolding symbol_of kinds

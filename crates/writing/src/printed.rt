@@ -95,10 +95,10 @@ impl Name {
         requires { Room self.old (symbol_bytes kind) }
         ensures { self.new ≡ self.old ++ symbol_bytes kind }
     {
-        // A number that is no kind's has no letters. The two bytes stand in an array of their own: a slice of constants costs a copy of the name.
+        // A number that is no kind's has no letters. The brackets stand in an array of their own: a slice of constants costs a copy of the name.
         let Some(known) = Kind::known(Some(kind)) else {
-            let bare = [b'(', b')'];
-            self.put(&bare);
+            let brackets = [b'(', b')'];
+            self.put(&brackets);
             return;
         };
         let capital = known.capital();

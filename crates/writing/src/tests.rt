@@ -6,6 +6,7 @@ use kinds::Kind;
 use table::Table;
 use table::rows::Rows;
 
+// One atom without hydrogens.
 fn lone(number: u8) -> Table
     ensures { Nameable result }
 {

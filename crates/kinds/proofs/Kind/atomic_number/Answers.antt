@@ -1,4 +1,4 @@
--- The array's entry at a kind is the rules' atomic number, by the test computed over all entries.
+-- The array's entry at a number is the rules' atomic number, also where no kind has it.
 use mathlib.Core.Path.{◌∙◌}
 use Rattle.kinds.proofs.Arrays.{numbers, number-everywhere}
 use Rattle.kinds.proofs.Kind.atomic_number.Goals as goal

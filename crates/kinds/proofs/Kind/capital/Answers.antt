@@ -1,4 +1,4 @@
--- The array's entry at a kind is the first letter of its symbol, by the test computed over all entries.
+-- The array's entry at a number is the first letter of its symbol, also where no kind has it.
 use mathlib.Core.Path.{◌∙◌}
 use Rattle.kinds.proofs.Arrays.{capitals, first-everywhere}
 use Rattle.kinds.proofs.Kind.capital.Goals as goal

@@ -1,4 +1,4 @@
--- The array's entry at a kind is the second letter of its symbol, or 0, by the test computed over all entries.
+-- The array's entry at a number is the second letter of its symbol, or 0, also where no kind has it.
 use mathlib.Core.Path.{◌≡◌, refl, ap, sym, ◌∙◌}
 use Prim.Native.Nat.{ℕ, zero, suc}
 use Rattle.std.specs.Prelude.{Some}
